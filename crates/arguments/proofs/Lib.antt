@@ -1,0 +1,9 @@
+pub mod Firsts
+pub mod Squeeze
+pub mod Fitting
+pub mod Spelling
+pub mod Exact
+pub mod Orderly
+pub mod Turns
+pub mod Assigning
+pub mod Whole

@@ -6,8 +6,7 @@ use lib.ListN.{length, getD, take, drop}
 use Rattle.std.specs.Text.{lower}
 use Rattle.std.specs.shelf.Text.{sameBytes}
 use Rattle.std.specs.declared.option.Option.{Option}
-use Rattle.arguments.specs.declared.written.ArgumentName.{ArgumentName}
-use Rattle.arguments.specs.Found.{first-below}
+use Rattle.arguments.specs.First.{first-below}
 
 -- a name as it is written, and whether in quotes
 pub record Name : Type 0 where
@@ -21,7 +20,3 @@ matches n p = cond (n .quoted) (sameBytes (n .bytes) p) (sameBytes (map lower (n
 -- the first parameter that a name matches
 abbrev pub first-match : Name → List (List ℕ) → Option ℕ
 first-match n params = first-below (λ k. matches n (getD params k [])) (length params)
-
--- the name that stands in a text
-abbrev pub spelled : List ℕ → ArgumentName → Name
-spelled text n = record { bytes = take (n .len) (drop (n .start) text); quoted = n .«is_quoted» }

@@ -1,0 +1,279 @@
+-- The definition says what the subject says: a refusal is true, and where no refusal is true every argument stands where it belongs.
+use mathlib.Core.Path.{_≡_, refl, sym, ap, subst, _∙_}
+use mathlib.Core.Bool.{Bool, true, false, cond, not, _&&_, _||_}
+use mathlib.Core.List.{List, [], map}
+use mathlib.Core.Logic.{_⊎_, inl, inr}
+use Prim.Native.Nat.{ℕ, _+_, _≤_, _<_}
+use native.Mathlib.Omega.{arith}
+use lib.Dec.{eqb, ltb}
+use lib.ListN.{length, getD}
+use Rattle.std.proofs.shelf.Counted.{length-map-counting, getD-map-counting}
+use Rattle.std.proofs.shelf.Tests.{and-parts, or-cases, or-parts, not-true, not-false, both-ways, ltb-true, ltb-false, lt-ltb, eqb-true, eqb-false, eq-eqb, cases-order, and-from, not-from-false}
+use Rattle.std.specs.Options.{isSome, valueOr}
+use Rattle.std.specs.declared.option.Option.{Option}
+use Rattle.std.specs.declared.option.Option.the-variants.{Some, None}
+use Rattle.std.specs.declared.result.Result.the-variants.{Ok, Err}
+use Rattle.terms.specs.Limits.{most-arguments}
+use Rattle.terms.specs.declared.Reason.{Reason}
+use Rattle.terms.specs.declared.Reason.the-variants.{LabelTooLong, BadFunction, UnknownFunction, MalformedCall, PositionalAfterNamed, TooManyPositional, UnknownParameter, ParameterGivenTwice, MissingParameter}
+use Rattle.terms.specs.declared.Refusal.{Refusal}
+use Rattle.arguments.specs.declared.written.Argument.{Argument}
+use Rattle.arguments.specs.declared.written.ArgumentName.{ArgumentName}
+use Rattle.arguments.specs.First.{when, first, first-below, any-below, count-below}
+use Rattle.arguments.specs.Names.{Name}
+use Rattle.arguments.specs.Places.{Outcome, refusal, unless, blank, named, outside, malformed, late, crowded, goes, goes-to, place, giver, clash-of, clash, empty, standing, by-place, reordered, settled, resolves}
+use Rattle.arguments.specs.Standing.{Belongs, Place, Stands, Outside, Says, Exactly}
+use Rattle.arguments.specs.View.{spell}
+use Rattle.arguments.proofs.Firsts.{first-some, first-none, when-some, when-none, some-there, none-there, any-there, any-none, any-hit}
+use Rattle.arguments.proofs.Fitting.{goes-belongs, belongs-goes}
+use Rattle.arguments.proofs.Spelling.{as-many}
+use Rattle.arguments.proofs.Squeeze.{Apart, onto}
+
+pub goes-to-is : (o : Option ℕ) (k : ℕ) → goes-to o k ≡ true → o ≡ Some k
+goes-to-is None k e = absurd (let z : _≡_ {A = ℕ} 0 1 = cc in omega arith)
+goes-to-is (Some p) k e = ap Some (eqb-true p k e)
+
+is-goes-to : (o : Option ℕ) (k : ℕ) → o ≡ Some k → goes-to o k ≡ true
+is-goes-to o k e = rw e (eq-eqb k k refl)
+
+outside-is : (text : List ℕ) (o : Option ArgumentName) → outside text o ≡ true → Outside text o
+outside-is text None e = absurd (let z : _≡_ {A = ℕ} 0 1 = cc in omega arith)
+outside-is text (Some n) e = ltb-true (length text) (n .start + n .len) e
+
+is-outside : (text : List ℕ) (o : Option ArgumentName) → Outside text o → outside text o ≡ true
+is-outside text None h = absurd h
+is-outside text (Some n) h = lt-ltb (length text) (n .start + n .len) h
+
+-- an argument without a name belongs where it is written, and nowhere else
+at-none : (params : List (List ℕ)) (i k : ℕ) (o : Option Name) → o ≡ None → Belongs params i o k → k ≡ i
+at-none params i k None e h = h
+at-none params i k (Some n) e h = absurd (let z : _≡_ {A = ℕ} 0 1 = cc in omega arith)
+
+none-at : (params : List (List ℕ)) (i : ℕ) (o : Option Name) → o ≡ None → Belongs params i o i
+none-at params i o e = subst (λ (x : Option Name). Belongs params i x i) (sym e) refl
+
+module _ (params : List (List ℕ)) (ns : List (Option Name)) where
+  pub is-place : (i k : ℕ) → Place params ns i k → place params ns i ≡ Some k
+  is-place i k h = belongs-goes params i k (getD ns i None) (h .1)
+
+  pub place-is : (i k : ℕ) → i < length ns → place params ns i ≡ Some k → Place params ns i k
+  place-is i k l e = (l, goes-belongs params i k (getD ns i None) e)
+
+  pub giver-some : (n k i : ℕ) → giver params ns n k ≡ Some i → (i < n) × (place params ns i ≡ Some k)
+  giver-some n k i e =
+      let s = first-some (λ j. when (goes-to (place params ns j) k) j) n i e in
+      let w = when-some (goes-to (place params ns (s .0)) k) (s .0) i (s .2) in
+      let r : (s .0 < n) × (place params ns (s .0) ≡ Some k) = (s .1, goes-to-is (place params ns (s .0)) k (w .0)) in
+      subst (λ (j : ℕ). (j < n) × (place params ns j ≡ Some k)) (w .1) r
+
+  giver-hit : (n k i : ℕ) → i < n → place params ns i ≡ Some k → isSome (giver params ns n k) ≡ true
+  giver-hit n k i l e = any-hit (λ j. goes-to (place params ns j) k) n i l (is-goes-to (place params ns i) k e)
+
+  clash-none : (i : ℕ) (o : Option ℕ) → clash-of params ns i o ≡ None → (k : ℕ) × (o ≡ Some k) × (isSome (giver params ns i k) ≡ false)
+  clash-none i None e = absurd (let z : _≡_ {A = ℕ} 0 1 = cc in omega arith)
+  clash-none i (Some k) e = (k, refl, when-none (isSome (giver params ns i k)) (refusal ParameterGivenTwice i) e)
+
+  -- no two arguments go to one place where none clashes
+  apart : first (clash params ns) (length ns) ≡ None → (i j k : ℕ) → i < j → Place params ns i k → Place params ns j k → ⊥
+  apart e i j k l p q =
+      let c = clash-none j (place params ns j) (first-none (clash params ns) (length ns) e j (q .0)) in
+      let same : c .0 ≡ k = (let a = sym (c .1) ∙ is-place j k q in cc) in
+      let h = giver-hit j (c .0) i l (is-place i k p ∙ ap Some (sym same)) in
+      both-ways (isSome (giver params ns j (c .0))) (c .2) h
+
+  -- who is given place k, where no place below the count is empty
+  filled : first (empty params ns) (length ns) ≡ None → (k : ℕ) → k < length ns → (i : ℕ) × (giver params ns (length ns) k ≡ Some i)
+  filled e k l =
+      let w = when-none (not (isSome (giver params ns (length ns) k))) (refusal MissingParameter k) (first-none (empty params ns) (length ns) e k l) in
+      some-there (giver params ns (length ns) k) (not-false (isSome (giver params ns (length ns) k)) w)
+
+  -- the argument that is given place k
+  abbrev holder : ℕ → ℕ
+  holder k = valueOr (giver params ns (length ns) k) 0
+
+  held : first (empty params ns) (length ns) ≡ None → (k : ℕ) → k < length ns → (holder k < length ns) × (place params ns (holder k) ≡ Some k)
+  held e k l =
+      let g = filled e k l in
+      subst (λ (o : Option ℕ). (valueOr o 0 < length ns) × (place params ns (valueOr o 0) ≡ Some k)) (sym (g .1)) (giver-some (length ns) k (g .0) (g .1))
+
+  one-place : first (empty params ns) (length ns) ≡ None → Apart (length ns) holder
+  one-place e j k p q h = let a = held e j p .1 in let b = held e k q .1 in let d = ap (place params ns) h in cc
+
+  holds : first (empty params ns) (length ns) ≡ None → (i : ℕ) → i < length ns → (k : ℕ) × (k < length ns) × (holder k ≡ i)
+  holds e = onto (length ns) holder (λ k m. held e k m .0) (one-place e)
+
+  pub placed : (args : List Argument) → length args ≡ length ns → first (clash params ns) (length ns) ≡ None → first (empty params ns) (length ns) ≡ None
+      → Stands params ns args (by-place params ns args)
+  placed args n c e =
+      let len : length (by-place params ns args) ≡ length args = length-map-counting (standing params ns args) 0 (length args) in
+      let at : (k : ℕ) → k < length args → getD (by-place params ns args) k blank ≡ getD args (holder k) blank =
+      λ k l. getD-map-counting (standing params ns args) 0 (length args) k k blank l (omega arith) in
+      record {
+        count = len;
+        each = λ i l. (
+            let o = holds e i (omega arith) in
+            (o .0, omega (arith, o .1), place-is i (o .0) (omega arith) (subst (λ (j : ℕ). place params ns j ≡ Some (o .0)) (o .2) (held e (o .0) (o .1) .1)), at (o .0) (omega (arith, o .1)) ∙ ap (λ (j : ℕ). getD args j blank) (o .2))
+            );
+        once = λ i j k p q. elim (cases-order i j) [
+          | inl h ↦ h
+          | inr (inl h) ↦ absurd (apart c i j k h p q)
+          | inr (inr h) ↦ absurd (apart c j i k h q p)
+        ];
+        other = λ k l. (let w = held e k (omega (arith, len)) in (holder k, omega (arith, w .0), place-is (holder k) k (w .0) (w .1), at k (omega (arith, len))));
+      }
+
+  -- with no name everything stands where it is written
+  pub as-written : (args : List Argument) → length args ≡ length ns → ((i : ℕ) → i < length ns → named ns i ≡ false) → Stands params ns args args
+  as-written args n h =
+      let none : (i : ℕ) → i < length ns → getD ns i None ≡ None = λ i l. none-there (getD ns i None) (h i l) in
+      let here : (i : ℕ) → i < length ns → Place params ns i i = λ i l. (l, none-at params i (getD ns i None) (none i l)) in
+      record {
+        count = refl;
+        each = λ i l. (i, l, here i (omega arith), refl);
+        once = λ i j k p q. (let a = at-none params i k (getD ns i None) (none i (p .0)) (p .1) in let b = at-none params j k (getD ns j None) (none j (q .0)) (q .1) in omega arith);
+        other = λ k l. (k, l, here k (omega arith), refl);
+      }
+
+-- what is true of a refusal that the definition gives
+module _ (params : List (List ℕ)) (text : List ℕ) (args : List Argument) (names : List (Option ArgumentName)) where
+  abbrev ns : List (Option Name)
+  ns = spell text names
+
+  abbrev True : Refusal → Type 0
+  True r = Says params text args names ns (r .reason) (r .place)
+
+  malformed-true : (r : Refusal) → malformed text args names ≡ Some r → True r
+  malformed-true r e =
+      let many = ltb most-arguments (length args) in
+      let differ = not (eqb (length args) (length names)) in
+      let out = any-below (λ i. outside text (getD names i None)) (length names) in
+      let w = when-some (many || (differ || out)) (refusal MalformedCall 0) r e in
+      subst True (w .1) (
+        refl,
+        elim (or-cases many (differ || out) (w .0)) [
+          | inl h ↦ inl (ltb-true most-arguments (length args) h)
+          | inr h ↦ elim (or-cases differ out h) [
+            | inl g ↦ inr (inl (eqb-false (length args) (length names) (not-true (eqb (length args) (length names)) g)))
+            | inr g ↦ inr (inr (let s = any-there (λ i. outside text (getD names i None)) (length names) g in (s .0, s .1, outside-is text (getD names (s .0) None) (s .2))))
+          ]
+        ],
+      )
+
+  late-true : (r : Refusal) → first (late ns) (length ns) ≡ Some r → True r
+  late-true r e =
+      let s = first-some (late ns) (length ns) r e in
+      let i = s .0 in
+      let w = when-some (not (named ns i) && any-below (named ns) i) (refusal PositionalAfterNamed i) r (s .2) in
+      let p = and-parts (not (named ns i)) (any-below (named ns) i) (w .0) in
+      subst True (w .1) (s .1, not-true (named ns i) (p .0), any-there (named ns) i (p .1))
+
+  crowded-true : any-below (named ns) (length ns) ≡ true → (r : Refusal) → crowded params ns ≡ Some r → True r
+  crowded-true a r e =
+      let count = count-below (λ i. not (named ns i)) (length ns) in
+      let w = when-some (ltb (length params) count) (refusal TooManyPositional 0) r e in
+      subst True (w .1) (refl, any-there (named ns) (length ns) a, ltb-true (length params) count (w .0))
+
+  clash-true : (r : Refusal) → first (clash params ns) (length ns) ≡ Some r → True r
+  clash-true r e = let s = first-some (clash params ns) (length ns) r e in go (s .0) (s .1) (place params ns (s .0)) refl (s .2)
+    where
+      go : (i : ℕ) → i < length ns → (o : Option ℕ) → place params ns i ≡ o → clash-of params ns i o ≡ Some r → True r
+      go i l None p q = let d : refusal UnknownParameter i ≡ r = cc in subst True d (l, λ k h. let a = is-place params ns i k h in let z : _≡_ {A = ℕ} 0 1 = cc in omega arith)
+      go i l (Some k) p q =
+          let w = when-some (isSome (giver params ns i k)) (refusal ParameterGivenTwice i) r q in
+          let g = some-there (giver params ns i k) (w .0) in
+          let j = giver-some params ns i k (g .0) (g .1) in
+          subst True (w .1) (g .0, k, j .0, place-is params ns (g .0) k (omega (arith, j .0)) (j .1), place-is params ns i k l p)
+
+  empty-true : (r : Refusal) → first (empty params ns) (length ns) ≡ Some r → True r
+  empty-true r e =
+      let s = first-some (empty params ns) (length ns) r e in
+      let k = s .0 in
+      let w = when-some (not (isSome (giver params ns (length ns) k))) (refusal MissingParameter k) r (s .2) in
+      subst True (w .1) (s .1, λ i h. both-ways (isSome (giver params ns (length ns) k)) (not-true (isSome (giver params ns (length ns) k)) (w .0)) (giver-hit params ns (length ns) k i (h .0) (is-place params ns i k h)))
+
+  -- what a call has that is not malformed
+  pub well-formed : malformed text args names ≡ None → (length args ≤ most-arguments) × (length args ≡ length names) × ((i : ℕ) → i < length names → outside text (getD names i None) ≡ false)
+  well-formed e =
+      let many = ltb most-arguments (length args) in
+      let differ = not (eqb (length args) (length names)) in
+      let out = any-below (λ i. outside text (getD names i None)) (length names) in
+      let p = or-parts many (differ || out) (when-none (many || (differ || out)) (refusal MalformedCall 0) e) in
+      let q = or-parts differ out (p .1) in
+      (ltb-false most-arguments (length args) (p .0), eqb-true (length args) (length names) (not-false (eqb (length args) (length names)) (q .0)), any-none (λ i. outside text (getD names i None)) (length names) (q .1))
+
+  abbrev None-true : Type 0
+  None-true = (r : Reason) (p : ℕ) → Says params text args names ns r p → ⊥
+
+  -- a call that is not malformed says nothing of that kind
+  not-malformed : malformed text args names ≡ None → (p : ℕ) → Says params text args names ns MalformedCall p → ⊥
+  not-malformed e p h = let w = well-formed e in elim (h .1) [
+    | inl a ↦ omega (arith, w .0)
+    | inr (inl a) ↦ a (w .1)
+    | inr (inr a) ↦ both-ways (outside text (getD names (a .0) None)) (w .2 (a .0) (a .1)) (is-outside text (getD names (a .0) None) (a .2))
+  ]
+
+  none-named : malformed text args names ≡ None → any-below (named ns) (length ns) ≡ false → None-true
+  none-named e a LabelTooLong p h = h
+  none-named e a BadFunction p h = h
+  none-named e a UnknownFunction p h = h
+  none-named e a MalformedCall p h = not-malformed e p h
+  none-named e a PositionalAfterNamed p h = both-ways (named ns (h .2 .0)) (any-none (named ns) (length ns) a (h .2 .0) (omega (arith, h .0, h .2 .1))) (h .2 .2)
+  none-named e a TooManyPositional p h = both-ways (named ns (h .1 .0)) (any-none (named ns) (length ns) a (h .1 .0) (h .1 .1)) (h .1 .2)
+  none-named e a UnknownParameter p h = h .1 p (h .0, none-at params p (getD ns p None) (none-there (getD ns p None) (any-none (named ns) (length ns) a p (h .0))))
+  none-named e a ParameterGivenTwice p h =
+      let none : (i : ℕ) → i < length ns → getD ns i None ≡ None = λ i l. none-there (getD ns i None) (any-none (named ns) (length ns) a i l) in
+      let b = at-none params (h .0) (h .1) (getD ns (h .0) None) (none (h .0) (h .3 .0)) (h .3 .1) in
+      let d = at-none params p (h .1) (getD ns p None) (none p (h .4 .0)) (h .4 .1) in
+      omega (arith, h .2)
+  none-named e a MissingParameter p h = h .1 p (h .0, none-at params p (getD ns p None) (none-there (getD ns p None) (any-none (named ns) (length ns) a p (h .0))))
+
+  none-refused : malformed text args names ≡ None → first (late ns) (length ns) ≡ None → crowded params ns ≡ None → first (clash params ns) (length ns) ≡ None → first (empty params ns) (length ns) ≡ None → None-true
+  none-refused e l w c m LabelTooLong p h = h
+  none-refused e l w c m BadFunction p h = h
+  none-refused e l w c m UnknownFunction p h = h
+  none-refused e l w c m MalformedCall p h = not-malformed e p h
+  none-refused e l w c m PositionalAfterNamed p h =
+      let a = when-none (not (named ns p) && any-below (named ns) p) (refusal PositionalAfterNamed p) (first-none (late ns) (length ns) l p (h .0)) in
+      both-ways (not (named ns p) && any-below (named ns) p) a (and-from (not (named ns p)) (any-below (named ns) p) (not-from-false (named ns p) (h .1)) (any-hit (named ns) p (h .2 .0) (h .2 .1) (h .2 .2)))
+  none-refused e l w c m TooManyPositional p h =
+      let count = count-below (λ i. not (named ns i)) (length ns) in
+      let a = ltb-false (length params) count (when-none (ltb (length params) count) (refusal TooManyPositional 0) w) in
+      omega (arith, h .2)
+  none-refused e l w c m UnknownParameter p h =
+      let a = clash-none params ns p (place params ns p) (first-none (clash params ns) (length ns) c p (h .0)) in
+      h .1 (a .0) (place-is params ns p (a .0) (h .0) (a .1))
+  none-refused e l w c m ParameterGivenTwice p h = apart params ns c (h .0) p (h .1) (h .2) (h .3) (h .4)
+  none-refused e l w c m MissingParameter p h = let g = held params ns m p (h .0) in h .1 (holder params ns p) (place-is params ns (holder params ns p) p (g .0) (g .1))
+
+  abbrev Exact : Outcome → Type 0
+  Exact = Exactly params text args names
+
+  exact-empty : malformed text args names ≡ None → first (late ns) (length ns) ≡ None → crowded params ns ≡ None → first (clash params ns) (length ns) ≡ None
+      → (o : Option Refusal) → first (empty params ns) (length ns) ≡ o → Exact (unless o (Ok (by-place params ns args)))
+  exact-empty e l w c None m = (placed params ns args (well-formed e .1 ∙ sym (as-many text names)) c m, none-refused e l w c m)
+  exact-empty e l w c (Some r) m = empty-true r m
+
+  exact-clash : malformed text args names ≡ None → first (late ns) (length ns) ≡ None → crowded params ns ≡ None
+      → (o : Option Refusal) → first (clash params ns) (length ns) ≡ o → Exact (unless o (unless (first (empty params ns) (length ns)) (Ok (by-place params ns args))))
+  exact-clash e l w None c = exact-empty e l w c (first (empty params ns) (length ns)) refl
+  exact-clash e l w (Some r) c = clash-true r c
+
+  exact-crowded : malformed text args names ≡ None → any-below (named ns) (length ns) ≡ true → first (late ns) (length ns) ≡ None
+      → (o : Option Refusal) → crowded params ns ≡ o → Exact (unless o (unless (first (clash params ns) (length ns)) (unless (first (empty params ns) (length ns)) (Ok (by-place params ns args)))))
+  exact-crowded e a l None w = exact-clash e l w (first (clash params ns) (length ns)) refl
+  exact-crowded e a l (Some r) w = crowded-true a r w
+
+  exact-late : malformed text args names ≡ None → any-below (named ns) (length ns) ≡ true → (o : Option Refusal) → first (late ns) (length ns) ≡ o → Exact (unless o (reordered params ns args))
+  exact-late e a None l = exact-crowded e a l (crowded params ns) refl
+  exact-late e a (Some r) l = late-true r l
+
+  exact-named : malformed text args names ≡ None → (b : Bool) → any-below (named ns) (length ns) ≡ b → Exact (cond b (unless (first (late ns) (length ns)) (reordered params ns args)) (Ok args))
+  exact-named e true a = exact-late e a (first (late ns) (length ns)) refl
+  exact-named e false a = (as-written params ns args (well-formed e .1 ∙ sym (as-many text names)) (any-none (named ns) (length ns) a), none-named e a)
+
+  exact-formed : (o : Option Refusal) → malformed text args names ≡ o → Exact (unless o (settled params ns args))
+  exact-formed None e = exact-named e (any-below (named ns) (length ns)) refl
+  exact-formed (Some r) e = malformed-true r e
+
+  pub exact : Exactly params text args names (resolves params text args names)
+  exact = exact-formed (malformed text args names) refl
