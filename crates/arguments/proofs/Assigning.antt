@@ -21,7 +21,8 @@ use Rattle.terms.specs.declared.Refusal.{Refusal}
 use Rattle.arguments.specs.declared.written.Argument.{Argument}
 use Rattle.arguments.specs.First.{when, first, first-below, count-below}
 use Rattle.arguments.specs.Names.{Name}
-use Rattle.arguments.specs.Places.{Outcome, refusal, unless, blank, named, crowded, goes-to, place, giver, clash-of, clash, empty, standing, by-place, reordered, Assigned, giver-in, empty-in, gathered}
+use Rattle.arguments.specs.Gathering.{Assigned, giver-in, empty-in, gathered}
+use Rattle.arguments.specs.Places.{Outcome, refusal, unless, blank, named, crowded, goes-to, place, giver, clash-of, clash, empty, standing, by-place, with-names}
 use Rattle.arguments.proofs.Firsts.{first-zero, first-more, first-hit, first-same, first-some, when-some}
 
 module _ (params : List (List ℕ)) (ns : List (Option Name)) where
@@ -70,14 +71,14 @@ module _ (params : List (List ℕ)) (ns : List (Option Name)) where
       ∙ ap (λ (xs : List Argument). unless (first (empty params ns) (length ns)) (Ok xs)) all
 
   -- the three ends of the reordering
-  pub too-many : (args : List Argument) → length params < count-below (λ i. not (named ns i)) (length ns) → Err (refusal TooManyPositional 0) ≡ reordered params ns args
+  pub too-many : (args : List Argument) → length params < count-below (λ i. not (named ns i)) (length ns) → Err (refusal TooManyPositional 0) ≡ with-names params ns args
   too-many args l = rw (lt-ltb (length params) (count-below (λ i. not (named ns i)) (length ns)) l) refl
 
-  pub clashes : (args : List Argument) (e : Refusal) → count-below (λ i. not (named ns i)) (length ns) ≤ length params → Some e ≡ first (clash params ns) (length ns) → Err e ≡ reordered params ns args
+  pub clashes : (args : List Argument) (e : Refusal) → count-below (λ i. not (named ns i)) (length ns) ≤ length params → Some e ≡ first (clash params ns) (length ns) → Err e ≡ with-names params ns args
   clashes args e l h = rw (le-ltb (length params) (count-below (λ i. not (named ns i)) (length ns)) l, ← h) refl
 
   pub gathers : (args : List Argument) (ps : List ℕ) (o : Outcome) → count-below (λ i. not (named ns i)) (length ns) ≤ length params → None ≡ first (clash params ns) (length ns)
-      → Assigned params ns (length ns) ps → length args ≡ length ns → o ≡ gathered ps args → o ≡ reordered params ns args
+      → Assigned params ns (length ns) ps → length args ≡ length ns → o ≡ gathered ps args → o ≡ with-names params ns args
   gathers args ps o l h a e q = q ∙ same-gathered ps args a e ∙ sym (rw (le-ltb (length params) (count-below (λ i. not (named ns i)) (length ns)) l, ← h) refl)
 
 -- gathering

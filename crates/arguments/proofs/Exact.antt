@@ -21,7 +21,7 @@ use Rattle.arguments.specs.declared.written.Argument.{Argument}
 use Rattle.arguments.specs.declared.written.ArgumentName.{ArgumentName}
 use Rattle.arguments.specs.First.{when, first, first-below, any-below, count-below}
 use Rattle.arguments.specs.Names.{Name}
-use Rattle.arguments.specs.Places.{Outcome, refusal, unless, blank, named, outside, malformed, late, crowded, goes, goes-to, place, giver, clash-of, clash, empty, standing, by-place, reordered, settled, resolves}
+use Rattle.arguments.specs.Places.{Outcome, refusal, unless, blank, named, outside, malformed, late, crowded, goes, goes-to, place, giver, clash-of, clash, empty, standing, by-place, with-names, settled, resolves}
 use Rattle.arguments.specs.Standing.{Belongs, Place, Stands, Outside, Says, Exactly}
 use Rattle.arguments.specs.View.{spell}
 use Rattle.arguments.proofs.Firsts.{first-some, first-none, when-some, when-none, some-there, none-there, any-there, any-none, any-hit}
@@ -263,11 +263,11 @@ module _ (params : List (List ℕ)) (text : List ℕ) (args : List Argument) (na
   exact-crowded e a l None w = exact-clash e l w (first (clash params ns) (length ns)) refl
   exact-crowded e a l (Some r) w = crowded-true a r w
 
-  exact-late : malformed text args names ≡ None → any-below (named ns) (length ns) ≡ true → (o : Option Refusal) → first (late ns) (length ns) ≡ o → Exact (unless o (reordered params ns args))
+  exact-late : malformed text args names ≡ None → any-below (named ns) (length ns) ≡ true → (o : Option Refusal) → first (late ns) (length ns) ≡ o → Exact (unless o (with-names params ns args))
   exact-late e a None l = exact-crowded e a l (crowded params ns) refl
   exact-late e a (Some r) l = late-true r l
 
-  exact-named : malformed text args names ≡ None → (b : Bool) → any-below (named ns) (length ns) ≡ b → Exact (cond b (unless (first (late ns) (length ns)) (reordered params ns args)) (Ok args))
+  exact-named : malformed text args names ≡ None → (b : Bool) → any-below (named ns) (length ns) ≡ b → Exact (cond b (unless (first (late ns) (length ns)) (with-names params ns args)) (Ok args))
   exact-named e true a = exact-late e a (first (late ns) (length ns)) refl
   exact-named e false a = (as-written params ns args (well-formed e .1 ∙ sym (as-many text names)) (any-none (named ns) (length ns) a), none-named e a)
 

@@ -12,7 +12,7 @@ use Rattle.std.specs.declared.option.Option.the-variants.{Some, None}
 use Rattle.terms.specs.declared.Reason.the-variants.{PositionalAfterNamed}
 use Rattle.arguments.specs.declared.written.ArgumentName.{ArgumentName}
 use Rattle.arguments.specs.First.{when, first, first-below, any-below, count-below}
-use Rattle.arguments.specs.Places.{named, late, refusal}
+use Rattle.arguments.specs.Places.{named, late, refusal, goes, place}
 use Rattle.arguments.specs.View.{spell, spelled}
 use Rattle.arguments.proofs.Firsts.{first-same, count-same}
 
@@ -37,6 +37,10 @@ module _ (text : List ℕ) (names : List (Option ArgumentName)) where
 
   pub late-spelled : (n : ℕ) → first (late (spell text names)) n ≡ first (late names) n
   late-spelled n = first-same (late (spell text names)) (late names) n (λ i l. rw (named-spelled i, any-spelled i))
+
+  -- the place of an argument, from its name as it is handed in
+  pub place-spelled : (params : List (List ℕ)) (i : ℕ) (o : Option ℕ) → o ≡ goes params i (mapped (spelled text) (getD names i None)) → place params (spell text names) i ≡ o
+  place-spelled params i o e = ap (goes params i) (spell-at text names i) ∙ sym e
 
   pub count-spelled : (n : ℕ) → count-below (λ i. not (named (spell text names) i)) n ≡ count-below (λ i. not (named names i)) n
   count-spelled n = count-same (λ i. not (named (spell text names) i)) (λ i. not (named names i)) n (λ k l. ap not (named-spelled k))

@@ -14,7 +14,8 @@ use Rattle.arguments.specs.declared.written.Argument.{Argument}
 use Rattle.arguments.specs.declared.written.ArgumentName.{ArgumentName}
 use Rattle.arguments.specs.First.{first, any-below, count-below}
 use Rattle.arguments.specs.Orders.{Reordered, Alike}
-use Rattle.arguments.specs.Places.{Outcome, refusal, malformed, named, late, clash, Assigned, gathered, reordered, resolves}
+use Rattle.arguments.specs.Gathering.{Assigned, gathered}
+use Rattle.arguments.specs.Places.{Outcome, refusal, malformed, named, late, clash, with-names, resolves}
 use Rattle.arguments.specs.Resolution.{Resolution}
 use Rattle.arguments.specs.Standing.{Exactly}
 use Rattle.arguments.specs.View.{spell}
@@ -31,14 +32,14 @@ module _ (params : List (List ℕ)) (text : List ℕ) (args : List Argument) (na
   counted : count-below (λ i. not (named (spell text names) i)) (length (spell text names)) ≡ positional
   counted = ap (count-below (λ i. not (named (spell text names) i))) (as-many text names) ∙ count-spelled text names (length names)
 
-  pub crowded-so : length params < positional → Err (refusal TooManyPositional 0) ≡ reordered params (spell text names) args
+  pub crowded-so : length params < positional → Err (refusal TooManyPositional 0) ≡ with-names params (spell text names) args
   crowded-so l = too-many params (spell text names) args (rw counted l)
 
-  pub clash-so : positional ≤ length params → (e : Refusal) → Some e ≡ first (clash params (spell text names)) (length names) → Err e ≡ reordered params (spell text names) args
+  pub clash-so : positional ≤ length params → (e : Refusal) → Some e ≡ first (clash params (spell text names)) (length names) → Err e ≡ with-names params (spell text names) args
   clash-so l e h = clashes params (spell text names) args e (rw counted l) (rw (as-many text names) h)
 
   pub gathered-so : malformed text args names ≡ None → positional ≤ length params → None ≡ first (clash params (spell text names)) (length names)
-      → (ps : List ℕ) → Assigned params (spell text names) (length names) ps → (o : Outcome) → o ≡ gathered ps args → o ≡ reordered params (spell text names) args
+      → (ps : List ℕ) → Assigned params (spell text names) (length names) ps → (o : Outcome) → o ≡ gathered ps args → o ≡ with-names params (spell text names) args
   gathered-so w l h ps a o q =
       gathers params (spell text names) args ps o (rw counted l) (rw (as-many text names) h) (rw (as-many text names) a) (well-formed params text args names w .1 ∙ sym (as-many text names)) q
 
@@ -66,5 +67,5 @@ module _ (params : List (List ℕ)) (text : List ℕ) (args : List Argument) (na
     late-so h e l = lawful (Err e) (rw (← w, any-named, ← h, none-late, ← l) refl)
 
     pub reordered-so : true ≡ any-below (named names) (length names) → None ≡ first (late names) (length names)
-        → (o : Outcome) → o ≡ reordered params (spell text names) args → Resolution params text args names o
+        → (o : Outcome) → o ≡ with-names params (spell text names) args → Resolution params text args names o
     reordered-so h l o e = lawful o (rw (← w, any-named, ← h, none-late, ← l) e)

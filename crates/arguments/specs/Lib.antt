@@ -2,7 +2,9 @@ pub mod First
 pub mod Names
 pub mod View
 pub mod Places
+pub mod Gathering
 pub mod Standing
 pub mod Orders
 pub mod Answers
 pub mod Resolution
+pub mod Worked

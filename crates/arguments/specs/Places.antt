@@ -100,33 +100,16 @@ module _ (params : List (List ℕ)) (names : List (Option Name)) where
   by-place args = map (standing args) (counting 0 (length args))
 
   -- the outcome where an argument has a name: the refusals in their order, 25 and 26 argument by argument
-  abbrev pub reordered : List Argument → Outcome
-  reordered args =
+  abbrev pub with-names : List Argument → Outcome
+  with-names args =
       unless (crowded params names)
       (unless (first clash (length names))
       (unless (first empty (length names))
       (Ok (by-place args))))
 
--- ps has the place of each of the first n arguments
-pub record Assigned (params : List (List ℕ)) (names : List (Option Name)) (n : ℕ) (ps : List ℕ) : Type 0 where
-  pub size : length ps ≡ most-arguments
-  pub each : (i : ℕ) → i < n → place params names i ≡ Some (getD ps i 0)
-
--- the same by the places alone, each a number: the first argument before the n-th that has place k, and the answer or the first empty place
-abbrev pub giver-in : List ℕ → ℕ → ℕ → Option ℕ
-giver-in places n k = first-below (λ i. eqb (getD places i 0) k) n
-
-abbrev pub empty-in : List ℕ → ℕ → ℕ → Option Refusal
-empty-in places n k = when (not (isSome (giver-in places n k))) (refusal MissingParameter k)
-
-abbrev pub gathered : List ℕ → List Argument → Outcome
-gathered places args =
-    unless (first (empty-in places (length args)) (length args))
-    (Ok (map (λ k. getD args (valueOr (giver-in places (length args) k) 0) blank) (counting 0 (length args))))
-
 -- with no name arguments stay as written, however many the parameters
 abbrev pub settled : List (List ℕ) → List (Option Name) → List Argument → Outcome
-settled params names args = cond (any-below (named names) (length names)) (unless (first (late names) (length names)) (reordered params names args)) (Ok args)
+settled params names args = cond (any-below (named names) (length names)) (unless (first (late names) (length names)) (with-names params names args)) (Ok args)
 
 -- the outcome of a call
 abbrev pub resolves : List (List ℕ) → List ℕ → List Argument → List (Option ArgumentName) → Outcome

@@ -1,60 +1,34 @@
 // Names to places: puts each argument of a call under its parameter.
 ghost use mathlib.Core.Path.{_≡_};
 ghost use mathlib.Core.Bool.{not, false};
-ghost use mathlib.Core.List.{map};
 ghost use Prim.Native.Nat.{ℕ, _≤_, _<_};
-ghost use lib.Dec.{eqb};
 ghost use lib.ListN.{length, getD};
-ghost use Rattle.std.specs.Options.{mapped};
 ghost use Rattle.std.specs.Vec.{made};
-ghost use Rattle.std.specs.declared.option.Option.the-variants.{Some, None};
+ghost use Rattle.std.specs.shelf.Lists.{All};
+ghost use Rattle.std.specs.declared.option.Option.the-variants.{None};
 ghost use Rattle.terms.specs.Limits.{most-arguments};
-ghost use Rattle.arguments.specs.First.{first, first-below, any-below, count-below};
-ghost use Rattle.arguments.specs.Names.{matches, first-match};
-ghost use Rattle.arguments.specs.Places.{named, outside, malformed, late, goes, giver-in, clash, Assigned, gathered, reordered};
+ghost use Rattle.arguments.specs.Answers.{outcome, refusalOf};
+ghost use Rattle.arguments.specs.First.{first, any-below, count-below};
+ghost use Rattle.arguments.specs.Gathering.{Assigned};
+ghost use Rattle.arguments.specs.Places.{named, outside, malformed, late, clash, with-names};
 ghost use Rattle.arguments.specs.Resolution.{Resolution};
-ghost use Rattle.arguments.specs.Answers.{listed, outcome, refusalOf};
-ghost use Rattle.arguments.specs.View.{bytesOf, spelled, spell};
+ghost use Rattle.arguments.specs.View.{bytesOf, spell};
+ghost use Rattle.arguments.specs.Worked.{Holds, table};
+use by_name::place_of;
+use by_place::gather;
+use by_place::giver_of;
 use terms::MOST_ARGUMENTS;
 use terms::Reason;
 use terms::Refusal;
 
+mod by_name;
+mod by_place;
 mod resolved;
 mod written;
 
 pub use resolved::Resolved;
 pub use written::Argument;
 pub use written::ArgumentName;
-
-impl Resolved {
-    // The arguments in the order of their places.
-    pub fn as_slice(&self) -> &[Argument]
-        ensures { λ r. ⌜ now r ≡ listed (now (self .entry)) ⌝ }
-    {
-        &self.items[0..self.count]
-    }
-
-    // The arguments where they are written.
-    fn as_written(args: &[Argument]) -> Resolved
-        requires { ⌜ length (now args) ≤ most-arguments ⌝ }
-        ensures { λ r. ⌜ listed r ≡ now (args .entry) ⌝ }
-    {
-        let mut items = [NO_ARGUMENT; MOST_ARGUMENTS];
-        for (i, arg) in args.iter().enumerate() {
-            items[i] = *arg;
-        }
-        Resolved {
-            items,
-            count: args.len(),
-        }
-    }
-}
-
-// What stands where nothing was written.
-const NO_ARGUMENT: Argument = Argument {
-    id: 0,
-    type_number: 0,
-};
 
 fn is_outside(arg_name: &Option<ArgumentName>, text: &[u8]) -> bool
     ensures { λ r. ⌜ r ≡ outside (now (text .entry)) (now («arg_name» .entry)) ⌝ }
@@ -137,61 +111,6 @@ fn positional_count(arg_names: &[Option<ArgumentName>]) -> usize
     count
 }
 
-// A quoted name matches exactly, any other ignoring ASCII case.
-fn matches_parameter(name: &[u8], is_quoted: bool, param_name: &[u8]) -> bool
-    ensures { λ r. ⌜ r ≡ matches (record { bytes = now (name .entry); quoted = «is_quoted» }) (now («param_name» .entry)) ⌝ }
-{
-    if is_quoted {
-        name == param_name
-    } else {
-        name.eq_ignore_ascii_case(param_name)
-    }
-}
-
-// The first parameter that a name matches.
-fn parameter_index(name: &[u8], is_quoted: bool, param_names: &[&[u8]]) -> Option<usize>
-    ensures { λ r. ⌜ r ≡ first-match (record { bytes = now (name .entry); quoted = «is_quoted» }) (bytesOf (now («param_names» .entry))) ⌝ }
-{
-    for (k, param_name) in param_names.iter().enumerate() {
-        if matches_parameter(name, is_quoted, param_name) {
-            return Some(k);
-        }
-    }
-    None
-}
-
-// Where an argument goes that is written at `i`: there, or to the first parameter that its name matches.
-fn place_of(
-    arg_name: &Option<ArgumentName>,
-    i: usize,
-    param_names: &[&[u8]],
-    text: &[u8],
-) -> Option<usize>
-    requires { ⌜ outside (now text) (now «arg_name») ≡ false ⌝ }
-    ensures { λ r. ⌜ r ≡ goes (bytesOf (now («param_names» .entry))) i (mapped (spelled (now (text .entry))) (now («arg_name» .entry))) ⌝ }
-{
-    match arg_name {
-        Some(name) => {
-            let bytes = &text[name.start..name.start + name.len];
-            parameter_index(bytes, name.is_quoted, param_names)
-        }
-        None => Some(i),
-    }
-}
-
-// The first of the first `count` places that is `place`.
-fn giver_of(places: &[usize], count: usize, place: usize) -> Option<usize>
-    requires { ⌜ count ≤ length (now places) ⌝ }
-    ensures { λ r. ⌜ r ≡ giver-in (now (places .entry)) count place ⌝ }
-{
-    for i in 0..count {
-        if places[i] == place {
-            return Some(i);
-        }
-    }
-    None
-}
-
 // The place of each argument, or 25 or 26 for the first that has none or one that was given already.
 fn assign_places(
     param_names: &[&[u8]],
@@ -222,28 +141,6 @@ fn assign_places(
     Ok(places)
 }
 
-// The arguments by place, or 27 for the first place that no argument has.
-fn gather(args: &[Argument], places: &[usize]) -> Result<Resolved, Refusal>
-    requires few { ⌜ length (now args) ≤ most-arguments ⌝ }
-    requires within { ⌜ length (now args) ≤ length (now places) ⌝ }
-    ensures { λ r. ⌜ outcome r ≡ gathered (now (places .entry)) (now (args .entry)) ⌝ }
-{
-    let mut items = [NO_ARGUMENT; MOST_ARGUMENTS];
-    for k in 0..args.len() {
-        let Some(i) = giver_of(places, args.len(), k) else {
-            return Err(Refusal {
-                reason: Reason::MissingParameter,
-                place: k,
-            });
-        };
-        items[k] = args[i];
-    }
-    Ok(Resolved {
-        items,
-        count: args.len(),
-    })
-}
-
 // Puts each argument under its parameter, where one of them has a name.
 fn reorder_named_arguments(
     param_names: &[&[u8]],
@@ -252,7 +149,7 @@ fn reorder_named_arguments(
     text: &[u8],
 ) -> Result<Resolved, Refusal>
     requires { ⌜ malformed (now text) (now args) (now «arg_names») ≡ None ⌝ }
-    ensures { λ r. ⌜ outcome r ≡ reordered (bytesOf (now («param_names» .entry))) (spell (now (text .entry)) (now («arg_names» .entry))) (now (args .entry)) ⌝ }
+    ensures { λ r. ⌜ outcome r ≡ with-names (bytesOf (now («param_names» .entry))) (spell (now (text .entry)) (now («arg_names» .entry))) (now (args .entry)) ⌝ }
 {
     if positional_count(arg_names) > param_names.len() {
         return Err(Refusal {
@@ -285,4 +182,12 @@ pub fn resolve_function_arguments(
     }
     validate_argument_order(arg_names)?;
     reorder_named_arguments(param_names, args, arg_names, text)
+}
+
+// How many worked cases there are: a table of calls, each with the outcome that the definition gives it.
+pub fn worked_cases() -> usize
+    ensures value { λ r. ⌜ r ≡ length table ⌝ }
+    ensures cases { λ _. ⌜ All Holds table ⌝ }
+{
+    6
 }

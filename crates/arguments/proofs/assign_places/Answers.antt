@@ -1,11 +1,10 @@
-use mathlib.Core.Path.{_≡_, sym, ap, refl, _∙_}
-use native.Mathlib.Omega.{arith}
-use lib.ListN.{length, getD}
+use mathlib.Core.Path.{ap, refl, _∙_}
+use lib.ListN.{length}
 use Rattle.std.specs.Options.{isSome}
-use Rattle.arguments.specs.Places.{goes, place}
+use Rattle.std.specs.declared.option.Option.the-variants.{Some, None}
 use Rattle.arguments.specs.View.{bytesOf, spell}
 use Rattle.arguments.proofs.Assigning.{none-assigned, unknown, given-twice, assigned-more}
-use Rattle.arguments.proofs.Spelling.{spell-at}
+use Rattle.arguments.proofs.Spelling.{place-spelled}
 use Rattle.arguments.proofs.assign_places.Needs as need
 
 pub loop-i-holds : need.loop-i-holds
@@ -17,7 +16,7 @@ returns-in-rest c =
     let ns = spell (c .args .text .now) (c .args .arg-names .now) in
     let i = c .loop-i .i in
     record {
-      refused = unknown ps ns i (length (c .args .arg-names .now)) (c .loop-i-test .taken) (c .loop-i .inv .0) (ap (goes ps i) (spell-at (c .args .text .now) (c .args .arg-names .now) i) ∙ sym (c .in-rest .ensures tt));
+      refused = unknown ps ns i (length (c .args .arg-names .now)) (c .loop-i-test .taken) (c .loop-i .inv .0) (place-spelled (c .args .text .now) (c .args .arg-names .now) ps i None (c .in-rest .ensures tt));
       places = tt;
     }
 
@@ -29,7 +28,7 @@ returns-then-is-some c =
     record {
       refused =
           given-twice ps ns i (length (c .args .arg-names .now)) (c .loop-i-test .taken) (c .loop-i .inv .0) (c .loop-i .places) (c .in-Some .place) (c .loop-i .inv .1)
-          (ap (goes ps i) (spell-at (c .args .text .now) (c .args .arg-names .now) i) ∙ sym (c .in-Some .ensures tt)) (c .if-is-some .ensures tt ∙ ap isSome (c .giver-of .ensures));
+          (place-spelled (c .args .text .now) (c .args .arg-names .now) ps i (Some (c .in-Some .place)) (c .in-Some .ensures tt)) (c .if-is-some .ensures tt ∙ ap isSome (c .giver-of .ensures));
       places = tt;
     }
 
@@ -39,4 +38,4 @@ loop-i-again c =
     let ns = spell (c .args .text .now) (c .args .arg-names .now) in
     let i = c .loop-i .i in
     assigned-more ps ns i (length (c .args .arg-names .now)) (c .loop-i-test .taken) (c .loop-i .inv .0) (c .pre .few) (c .loop-i .places) (c .in-Some .place) (c .loop-i .inv .1)
-    (ap (goes ps i) (spell-at (c .args .text .now) (c .args .arg-names .now) i) ∙ sym (c .in-Some .ensures tt)) (c .if-is-some .ensures tt ∙ ap isSome (c .giver-of .ensures))
+    (place-spelled (c .args .text .now) (c .args .arg-names .now) ps i (Some (c .in-Some .place)) (c .in-Some .ensures tt)) (c .if-is-some .ensures tt ∙ ap isSome (c .giver-of .ensures))

@@ -1,7 +1,8 @@
 use mathlib.Core.Path.{_≡_}
 use Rattle.std.specs.declared.option.Option.the-variants.{None}
 use Rattle.arguments.specs.First.{first}
-use Rattle.arguments.specs.Places.{clash, Assigned}
+use Rattle.arguments.specs.Gathering.{Assigned}
+use Rattle.arguments.specs.Places.{clash}
 use Rattle.arguments.specs.View.{bytesOf, spell}
 use Rattle.arguments.proofs.assign_places.Given as given
 

@@ -2,7 +2,7 @@ use lib.Dec.{eqb}
 use lib.ListN.{getD}
 use Rattle.std.proofs.shelf.Tests.{eq-eqb, ne-eqb}
 use Rattle.arguments.proofs.Firsts.{first-zero, below-more, below-hit}
-use Rattle.arguments.proofs.giver_of.Needs as need
+use Rattle.arguments.proofs.by_place.giver_of.Needs as need
 
 pub loop-i-holds : need.loop-i-holds
 loop-i-holds c = first-zero _

@@ -5,8 +5,9 @@ use Rattle.std.specs.Options.{valueOr}
 use Rattle.std.specs.declared.option.Option.the-variants.{None}
 use Rattle.terms.specs.Limits.{most-arguments}
 use Rattle.arguments.specs.First.{first}
-use Rattle.arguments.specs.Places.{empty-in, giver-in, blank}
-use Rattle.arguments.proofs.gather.Given as given
+use Rattle.arguments.specs.Gathering.{empty-in, giver-in}
+use Rattle.arguments.specs.Places.{blank}
+use Rattle.arguments.proofs.by_place.gather.Given as given
 
 abbrev pub Inv-loop-k : given.InvT-loop-k
 Inv-loop-k l =

@@ -3,7 +3,7 @@ use native.Mathlib.Omega.{arith}
 use lib.ListN.{length}
 use Rattle.arguments.proofs.Assigning.{giver-below, missing, gathered-more, gathered-all}
 use Rattle.arguments.proofs.Firsts.{first-zero}
-use Rattle.arguments.proofs.gather.Needs as need
+use Rattle.arguments.proofs.by_place.gather.Needs as need
 
 pub loop-k-holds : need.loop-k-holds
 loop-k-holds c = (first-zero _, refl, λ j l. absurd (omega arith))

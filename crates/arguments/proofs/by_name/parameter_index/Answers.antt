@@ -1,7 +1,7 @@
 use native.Mathlib.Omega.{arith}
 use Rattle.arguments.proofs.Firsts.{first-zero}
 use Rattle.arguments.proofs.Turns.{parameter-here, parameter-later, parameter-none}
-use Rattle.arguments.proofs.parameter_index.Needs as need
+use Rattle.arguments.proofs.by_name.parameter_index.Needs as need
 
 pub loop-k-holds : need.loop-k-holds
 loop-k-holds c = first-zero _
