@@ -14,6 +14,8 @@ use Rattle.std.specs.Iters.{counting}
 use Rattle.std.specs.Options.{isSome, valueOr}
 use Rattle.std.specs.declared.option.Option.{Option}
 use Rattle.std.specs.declared.option.Option.the-variants.{Some, None}
+use Rattle.std.specs.Results.{Cases}
+use Rattle.std.specs.declared.result.Result.{Result}
 use Rattle.std.specs.declared.result.Result.the-variants.{Ok, Err}
 use Rattle.terms.specs.Limits.{most-arguments}
 use Rattle.terms.specs.declared.Reason.the-variants.{TooManyPositional, UnknownParameter, ParameterGivenTwice, MissingParameter}
@@ -21,7 +23,7 @@ use Rattle.terms.specs.declared.Refusal.{Refusal}
 use Rattle.arguments.specs.declared.written.Argument.{Argument}
 use Rattle.arguments.specs.First.{when, first, first-below, count-below}
 use Rattle.arguments.specs.Names.{Name}
-use Rattle.arguments.specs.Gathering.{Assigned, giver-in, empty-in, gathered}
+use Rattle.arguments.specs.Gathering.{Assigned, giver-in, claimed, stands-at, empty-in, gathered}
 use Rattle.arguments.specs.Places.{Outcome, refusal, unless, blank, named, crowded, goes-to, place, giver, clash-of, clash, empty, standing, by-place, with-names}
 use Rattle.arguments.proofs.Firsts.{first-zero, first-more, first-hit, first-same, first-some, when-some}
 
@@ -33,27 +35,32 @@ module _ (params : List (List ℕ)) (ns : List (Option Name)) where
   pub none-assigned : (ps : List ℕ) → length ps ≡ most-arguments → (first (clash params ns) 0 ≡ None) × Assigned params ns 0 ps
   none-assigned ps e = (first-zero (clash params ns), record { size = e; each = λ i l. absurd (omega arith) })
 
-  module _ (i n : ℕ) (l : i < n) (none : first (clash params ns) i ≡ None) where
-    pub unknown : place params ns i ≡ None → Some (refusal UnknownParameter i) ≡ first (clash params ns) n
-    unknown e = sym (first-hit (clash params ns) n i (refusal UnknownParameter i) l none (ap (clash-of params ns i) e))
+  -- the argument at i clashes exactly where its place is not its to take
+  claims : (i : ℕ) (ps : List ℕ) → Assigned params ns i ps → (o : Option ℕ) (r : Result ℕ Refusal) → r ≡ claimed ps i o
+      → Cases r (λ k. (o ≡ Some k) × (clash-of params ns i o ≡ None)) (λ e. clash-of params ns i o ≡ Some e)
+  claims i ps a None r e = rw e refl
+  claims i ps a (Some k) r e = rw e (rw (same-giver i ps a k) (go (isSome (giver-in ps i k))))
+    where
+      go : (b : Bool) → Cases (cond b (Err (refusal ParameterGivenTwice i)) (Ok k)) (λ j. (Some k ≡ Some j) × (when b (refusal ParameterGivenTwice i) ≡ None)) (λ e. when b (refusal ParameterGivenTwice i) ≡ Some e)
+      go true = refl
+      go false = (refl, refl)
 
-    pub given-twice : (ps : List ℕ) (k : ℕ) → Assigned params ns i ps → place params ns i ≡ Some k → true ≡ isSome (giver-in ps i k) → Some (refusal ParameterGivenTwice i) ≡ first (clash params ns) n
-    given-twice ps k a e q = sym (first-hit (clash params ns) n i (refusal ParameterGivenTwice i) l none
-        (ap (clash-of params ns i) e ∙ ap (λ (o : Option ℕ). when (isSome o) (refusal ParameterGivenTwice i)) (same-giver i ps a k) ∙ ap (λ (b : Bool). when b (refusal ParameterGivenTwice i)) (sym q)))
+  module _ (i n : ℕ) (l : i < n) (none : first (clash params ns) i ≡ None) (ps : List ℕ) (a : Assigned params ns i ps) (o : Option ℕ) (is : o ≡ place params ns i) where
+    pub not-claimed : (e : Refusal) → Err e ≡ claimed ps i o → Some e ≡ first (clash params ns) n
+    not-claimed e h = sym (first-hit (clash params ns) n i e l none (ap (clash-of params ns i) (sym is) ∙ claims i ps a o (Err e) h))
 
-    pub assigned-more : n ≤ most-arguments → (ps : List ℕ) (k : ℕ) → Assigned params ns i ps → place params ns i ≡ Some k → false ≡ isSome (giver-in ps i k)
-        → (first (clash params ns) (i + 1) ≡ None) × Assigned params ns (i + 1) (set ps i k)
-    assigned-more m ps k a e q = (
-      first-more (clash params ns) i none
-          (ap (clash-of params ns i) e ∙ ap (λ (o : Option ℕ). when (isSome o) (refusal ParameterGivenTwice i)) (same-giver i ps a k) ∙ ap (λ (b : Bool). when b (refusal ParameterGivenTwice i)) (sym q)),
-      record {
-        size = length-set ps i k ∙ a .size;
-        each = λ j h. elim (cases-eq j i) [
-          | inl d ↦ rw d (e ∙ ap Some (sym (getD-set-same ps i k 0 (omega (arith, a .size)))))
-          | inr d ↦ a .each j (omega arith) ∙ ap Some (sym (getD-set-other ps i j k 0 d))
-        ];
-      },
-    )
+    pub assigned-more : n ≤ most-arguments → (k : ℕ) → Ok k ≡ claimed ps i o → (first (clash params ns) (i + 1) ≡ None) × Assigned params ns (i + 1) (set ps i k)
+    assigned-more m k h =
+        let c = claims i ps a o (Ok k) h in (
+          first-more (clash params ns) i none (ap (clash-of params ns i) (sym is) ∙ c .1),
+          record {
+            size = length-set ps i k ∙ a .size;
+            each = λ j q. elim (cases-eq j i) [
+              | inl d ↦ rw d (sym is ∙ c .0 ∙ ap Some (sym (getD-set-same ps i k 0 (omega (arith, a .size)))))
+              | inr d ↦ a .each j (omega arith) ∙ ap Some (sym (getD-set-other ps i j k 0 d))
+            ];
+          },
+        )
 
   -- what is gathered by the places assigned is what goes there
   pub same-gathered : (ps : List ℕ) (args : List Argument) → Assigned params ns (length ns) ps → length args ≡ length ns
@@ -83,32 +90,34 @@ module _ (params : List (List ℕ)) (ns : List (Option Name)) where
 
 -- gathering
 module _ (ps : List ℕ) (args : List Argument) where
-  pub giver-below : (n k i : ℕ) → Some i ≡ giver-in ps n k → i < n
-  giver-below n k i e =
-      let s = first-some (λ j. when (eqb (getD ps j 0) k) j) n i (sym e) in
-      let w = when-some (eqb (getD ps (s .0) 0) k) (s .0) i (s .2) in
-      subst (λ (j : ℕ). j < n) (w .1) (s .1)
+  -- what is found at place k
+  finds : (k : ℕ) (o : Option ℕ) (r : Result Argument Refusal) → r ≡ stands-at args k o
+      → Cases r (λ x. (isSome o ≡ true) × (x ≡ getD args (valueOr o 0) blank)) (λ e. (isSome o ≡ false) × (refusal MissingParameter k ≡ e))
+  finds k None r e = rw e (refl, refl)
+  finds k (Some i) r e = rw e (refl, refl)
 
-  pub missing : (k : ℕ) → k < length args → first (empty-in ps (length args)) k ≡ None → None ≡ giver-in ps (length args) k → Err (refusal MissingParameter k) ≡ gathered ps args
-  missing k l none e =
+  pub missing : (k : ℕ) (e : Refusal) → k < length args → first (empty-in ps (length args)) k ≡ None → Err e ≡ stands-at args k (giver-in ps (length args) k) → Err e ≡ gathered ps args
+  missing k e l none h =
+      let f = finds k (giver-in ps (length args) k) (Err e) h in
       sym (ap (λ (o : Option Refusal). unless o (Ok (map (λ k. getD args (valueOr (giver-in ps (length args) k) 0) blank) (counting 0 (length args)))))
-      (first-hit (empty-in ps (length args)) (length args) k (refusal MissingParameter k) l none (ap (λ (o : Option ℕ). when (not (isSome o)) (refusal MissingParameter k)) (sym e))))
+      (first-hit (empty-in ps (length args)) (length args) k e l none (ap (λ (b : Bool). when (not b) (refusal MissingParameter k)) (f .0) ∙ ap Some (f .1))))
 
   -- what stands at place k
   abbrev held : ℕ → Argument
   held k = getD args (valueOr (giver-in ps (length args) k) 0) blank
 
-  pub gathered-more : (items : List Argument) (k i : ℕ) → k < length args → length args ≤ most-arguments → first (empty-in ps (length args)) k ≡ None → length items ≡ most-arguments
-      → ((j : ℕ) → j < k → getD items j blank ≡ held j) → Some i ≡ giver-in ps (length args) k
-      → (first (empty-in ps (length args)) (k + 1) ≡ None) × (length (set items k (getD args i blank)) ≡ most-arguments) × ((j : ℕ) → j < k + 1 → getD (set items k (getD args i blank)) j blank ≡ held j)
-  gathered-more items k i l m none size each e = (
-    first-more (empty-in ps (length args)) k none (ap (λ (o : Option ℕ). when (not (isSome o)) (refusal MissingParameter k)) (sym e)),
-    length-set items k (getD args i blank) ∙ size,
-    λ j h. elim (cases-eq j k) [
-      | inl d ↦ rw d (getD-set-same items k (getD args i blank) blank (omega arith) ∙ ap (λ (o : Option ℕ). getD args (valueOr o 0) blank) e)
-      | inr d ↦ getD-set-other items k j (getD args i blank) blank d ∙ each j (omega arith)
-    ],
-  )
+  pub gathered-more : (items : List Argument) (k : ℕ) (x : Argument) → k < length args → length args ≤ most-arguments → first (empty-in ps (length args)) k ≡ None → length items ≡ most-arguments
+      → ((j : ℕ) → j < k → getD items j blank ≡ held j) → Ok x ≡ stands-at args k (giver-in ps (length args) k)
+      → (first (empty-in ps (length args)) (k + 1) ≡ None) × (length (set items k x) ≡ most-arguments) × ((j : ℕ) → j < k + 1 → getD (set items k x) j blank ≡ held j)
+  gathered-more items k x l m none size each e =
+      let f = finds k (giver-in ps (length args) k) (Ok x) e in (
+        first-more (empty-in ps (length args)) k none (ap (λ (b : Bool). when (not b) (refusal MissingParameter k)) (f .0)),
+        length-set items k x ∙ size,
+        λ j h. elim (cases-eq j k) [
+          | inl d ↦ rw d (getD-set-same items k x blank (omega arith) ∙ f .1)
+          | inr d ↦ getD-set-other items k j x blank d ∙ each j (omega arith)
+        ],
+      )
 
   pub gathered-all : (items : List Argument) (k : ℕ) → k ≡ length args → length args ≤ length items → first (empty-in ps (length args)) k ≡ None
       → ((j : ℕ) → j < k → getD items j blank ≡ held j) → Ok (take (length args) items) ≡ gathered ps args

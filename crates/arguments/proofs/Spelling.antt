@@ -39,8 +39,8 @@ module _ (text : List ℕ) (names : List (Option ArgumentName)) where
   late-spelled n = first-same (late (spell text names)) (late names) n (λ i l. rw (named-spelled i, any-spelled i))
 
   -- the place of an argument, from its name as it is handed in
-  pub place-spelled : (params : List (List ℕ)) (i : ℕ) (o : Option ℕ) → o ≡ goes params i (mapped (spelled text) (getD names i None)) → place params (spell text names) i ≡ o
-  place-spelled params i o e = ap (goes params i) (spell-at text names i) ∙ sym e
+  pub place-spelled : (params : List (List ℕ)) (i : ℕ) → goes params i (mapped (spelled text) (getD names i None)) ≡ place params (spell text names) i
+  place-spelled params i = sym (ap (goes params i) (spell-at text names i))
 
   pub count-spelled : (n : ℕ) → count-below (λ i. not (named (spell text names) i)) n ≡ count-below (λ i. not (named names i)) n
   count-spelled n = count-same (λ i. not (named (spell text names) i)) (λ i. not (named names i)) n (λ k l. ap not (named-spelled k))

@@ -1,10 +1,11 @@
 // The arguments of a call gathered by place.
 ghost use mathlib.Core.Path.{_≡_};
-ghost use Prim.Native.Nat.{_≤_};
+ghost use Prim.Native.Nat.{_≤_, _<_};
 ghost use lib.ListN.{length};
+ghost use Rattle.std.specs.Slices.{found};
 ghost use Rattle.terms.specs.Limits.{most-arguments};
 ghost use Rattle.arguments.specs.Answers.{listed, outcome};
-ghost use Rattle.arguments.specs.Gathering.{giver-in, gathered};
+ghost use Rattle.arguments.specs.Gathering.{giver-in, stands-at, gathered};
 use crate::resolved::Resolved;
 use crate::written::Argument;
 use terms::MOST_ARGUMENTS;
@@ -44,7 +45,8 @@ impl Resolved {
 // The first of the first `count` places that is `place`.
 pub(crate) fn giver_of(places: &[usize], count: usize, place: usize) -> Option<usize>
     requires { ⌜ count ≤ length (now places) ⌝ }
-    ensures { λ r. ⌜ r ≡ giver-in (now (places .entry)) count place ⌝ }
+    ensures value { λ r. ⌜ r ≡ giver-in (now (places .entry)) count place ⌝ }
+    ensures within { λ r. ⌜ found r (λ i. i < count) ⌝ }
 {
     for i in 0..count {
         if places[i] == place {
@@ -52,6 +54,20 @@ pub(crate) fn giver_of(places: &[usize], count: usize, place: usize) -> Option<u
         }
     }
     None
+}
+
+// The argument at place `k`, or 27 where there is none.
+fn argument_at(args: &[Argument], places: &[usize], k: usize) -> Result<Argument, Refusal>
+    requires { ⌜ length (now args) ≤ length (now places) ⌝ }
+    ensures { λ r. ⌜ r ≡ stands-at (now (args .entry)) k (giver-in (now (places .entry)) (length (now (args .entry))) k) ⌝ }
+{
+    match giver_of(places, args.len(), k) {
+        Some(i) => Ok(args[i]),
+        None => Err(Refusal {
+            reason: Reason::MissingParameter,
+            place: k,
+        }),
+    }
 }
 
 // The arguments by place, or 27 for the first place that no argument has.
@@ -62,13 +78,7 @@ pub(crate) fn gather(args: &[Argument], places: &[usize]) -> Result<Resolved, Re
 {
     let mut items = [NO_ARGUMENT; MOST_ARGUMENTS];
     for k in 0..args.len() {
-        let Some(i) = giver_of(places, args.len(), k) else {
-            return Err(Refusal {
-                reason: Reason::MissingParameter,
-                place: k,
-            });
-        };
-        items[k] = args[i];
+        items[k] = argument_at(args, places, k)?;
     }
     Ok(Resolved {
         items,

@@ -14,9 +14,8 @@ ghost use Rattle.arguments.specs.Places.{named, outside, malformed, late, clas
 ghost use Rattle.arguments.specs.Resolution.{Resolution};
 ghost use Rattle.arguments.specs.View.{bytesOf, spell};
 ghost use Rattle.arguments.specs.Worked.{Holds, table};
-use by_name::place_of;
+use by_name::claim_place;
 use by_place::gather;
-use by_place::giver_of;
 use terms::MOST_ARGUMENTS;
 use terms::Reason;
 use terms::Refusal;
@@ -124,19 +123,7 @@ fn assign_places(
 {
     let mut places = [0; MOST_ARGUMENTS];
     for (i, arg_name) in arg_names.iter().enumerate() {
-        let Some(place) = place_of(arg_name, i, param_names, text) else {
-            return Err(Refusal {
-                reason: Reason::UnknownParameter,
-                place: i,
-            });
-        };
-        if giver_of(&places, i, place).is_some() {
-            return Err(Refusal {
-                reason: Reason::ParameterGivenTwice,
-                place: i,
-            });
-        }
-        places[i] = place;
+        places[i] = claim_place(arg_name, i, param_names, text, &places)?;
     }
     Ok(places)
 }
