@@ -1,7 +1,7 @@
 // Where an argument goes: by its name, or where it is written.
 ghost use mathlib.Core.Path.{_≡_};
 ghost use mathlib.Core.Bool.{false};
-ghost use Prim.Native.Nat.{_≤_};
+ghost use Prim.Native.Nat.{_<_};
 ghost use lib.ListN.{length};
 ghost use Rattle.std.specs.Options.{mapped};
 ghost use Rattle.arguments.specs.Gathering.{claimed};
@@ -64,7 +64,7 @@ pub(crate) fn claim_place(
     places: &[usize],
 ) -> Result<usize, Refusal>
     requires name { ⌜ outside (now text) (now «arg_name») ≡ false ⌝ }
-    requires within { ⌜ i ≤ length (now places) ⌝ }
+    requires within { ⌜ i < length (now places) ⌝ }
     ensures { λ r. ⌜ r ≡ claimed (now (places .entry)) i (goes (bytesOf (now («param_names» .entry))) i (mapped (spelled (now (text .entry))) (now («arg_name» .entry)))) ⌝ }
 {
     match place_of(arg_name, i, param_names, text) {

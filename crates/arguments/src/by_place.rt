@@ -58,7 +58,8 @@ pub(crate) fn giver_of(places: &[usize], count: usize, place: usize) -> Option<u
 
 // The argument at place `k`, or 27 where there is none.
 fn argument_at(args: &[Argument], places: &[usize], k: usize) -> Result<Argument, Refusal>
-    requires { ⌜ length (now args) ≤ length (now places) ⌝ }
+    requires within { ⌜ length (now args) ≤ length (now places) ⌝ }
+    requires place { ⌜ k < length (now args) ⌝ }
     ensures { λ r. ⌜ r ≡ stands-at (now (args .entry)) k (giver-in (now (places .entry)) (length (now (args .entry))) k) ⌝ }
 {
     match giver_of(places, args.len(), k) {
