@@ -71,6 +71,17 @@ From n (InLow s h) = (s ≤ n) × (h ≤ 15)
 From n (InNumber k) = Unit {0}
 From n InArrow = Unit {0}
 
+-- what is begun, with one byte more
+abbrev pub grown : Pending → ℕ → Pending
+grown tokens.nothing b = tokens.nothing
+grown (tokens.inWord w) b = tokens.inWord (w ++ b ∷ [])
+grown (tokens.inQuote w) b = tokens.inQuote (w ++ b ∷ [])
+grown (tokens.inEscape w) b = tokens.inEscape (w ++ b ∷ [])
+grown (tokens.inHigh w) b = tokens.inHigh (w ++ b ∷ [])
+grown (tokens.inLow w h) b = tokens.inLow (w ++ b ∷ []) h
+grown (tokens.inNumber n) b = tokens.inNumber n
+grown tokens.inArrow b = tokens.inArrow
+
 -- the state of a lexer
 abbrev pub state : Lexer → State
 state l = tokens.at (map (seen (vec-items (l .text))) (vec-items (l .tokens))) (pending (vec-items (l .text)) (l .mode))

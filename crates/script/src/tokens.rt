@@ -2,12 +2,18 @@
 ghost use mathlib.Core.Path.{_≡_};
 ghost use mathlib.Core.List.{List, [], _∷_, _++_, map};
 ghost use Prim.Native.Nat.{ℕ, _+_, _-_, _*_, _<_, _≤_};
-ghost use lib.ListN.{length};
+ghost use lib.ListN.{length, drop};
+ghost use Rattle.std.specs.Options.{Cases as BySome};
 ghost use Rattle.std.specs.Of.Vec.{vec-items, vec-len};
 ghost use Rattle.std.specs.declared.option.Option.the-variants.{Some, None};
-ghost use Rattle.script.specs.Tokens.{class, goesOn, hexValue};
+ghost use Rattle.script.specs.Tokens.{class, goesOn, hexValue, at, nothing, begins, goes, step, inWord, inNumber, inQuote, inEscape, inHigh, inLow};
+ghost use Rattle.script.specs.Seen.{bytes, Inside, seen, Within, pending, From, grown, state, Sound, Steps};
 use crate::fault::Fault;
+use crate::fault::FaultFromRefused;
 use std::alloc::Global;
+
+// The largest number that a line may write.
+const LARGEST: u64 = 4294967295;
 
 // A part of the decoded text.
 #[derive(Clone, Copy)]
@@ -100,12 +106,159 @@ fn goes_on(b: u8) -> bool
 }
 
 fn hex_value(b: u8) -> Option<u8>
-    ensures { λ r. ⌜ r ≡ hexValue b ⌝ }
+    ensures value { λ r. ⌜ r ≡ hexValue b ⌝ }
+    ensures bound { λ r. ⌜ BySome r (Unit {0}) (λ h. h ≤ 15) ⌝ }
 {
     match b {
         b'0'..=b'9' => Some(b - b'0'),
         b'a'..=b'f' => Some(b - b'a' + 10),
         b'A'..=b'F' => Some(b - b'A' + 10),
         _ => None,
+    }
+}
+
+impl Lexer {
+    // One byte more in the text, which belongs to what is then begun.
+    fn keep(&mut self, byte: u8, mode: Mode) -> Result<(), Fault>
+        requires sound { ⌜ Sound (now self) ⌝ }
+        requires start { ⌜ From (length (vec-items (now self .text))) mode ⌝ }
+        ensures { λ r. ⌜ Steps r (Some (at (state (now (self .entry)) .done) (grown (pending (vec-items (now (self .entry) .text)) mode) byte))) (now (self .exit)) ⌝ }
+    {
+        self.text.push(byte)?;
+        self.mode = mode;
+        Ok(())
+    }
+
+    // One token more, and nothing begun.
+    fn emit(&mut self, token: Token) -> Result<(), Fault>
+        requires sound { ⌜ Sound (now self) ⌝ }
+        requires within { ⌜ Within (length (vec-items (now self .text))) token ⌝ }
+        ensures { λ r. ⌜ Steps r (Some (at (state (now (self .entry)) .done ++ seen (vec-items (now (self .entry) .text)) token ∷ []) nothing)) (now (self .exit)) ⌝ }
+    {
+        self.tokens.push(token)?;
+        self.mode = Mode::Between;
+        Ok(())
+    }
+
+    // What stands in the text from a place on.
+    fn span_from(&self, start: usize) -> Span
+        requires { ⌜ start ≤ length (vec-items (now self .text)) ⌝ }
+        ensures value { λ r. ⌜ bytes (vec-items (now (self .entry) .text)) r ≡ drop start (vec-items (now (self .entry) .text)) ⌝ }
+        ensures within { λ r. ⌜ Inside (length (vec-items (now (self .entry) .text))) r ⌝ }
+    {
+        Span {
+            start,
+            len: self.text.len() - start,
+        }
+    }
+
+    // A byte where nothing is begun.
+    fn begin(&mut self, place: usize, byte: u8) -> Result<(), Fault>
+        requires { ⌜ Sound (now self) ⌝ }
+        ensures { λ r. ⌜ Steps r (begins (state (now (self .entry)) .done) byte (class byte)) (now (self .exit)) ⌝ }
+    {
+        match class_of(byte) {
+            Class::Blank => self.mode = Mode::Between,
+            Class::Letter => {
+                let start = self.text.len();
+                self.keep(byte, Mode::InWord(start))?;
+            }
+            Class::Digit => self.mode = Mode::InNumber(u32::from(byte.saturating_sub(b'0'))),
+            Class::Quote => self.mode = Mode::InQuote(self.text.len()),
+            Class::Opens => self.emit(Token::Open)?,
+            Class::Closes => self.emit(Token::Close)?,
+            Class::Separates => self.emit(Token::Comma)?,
+            Class::Equals => self.mode = Mode::InArrow,
+            Class::Other => return Err(Fault::Stray { place, byte }),
+        }
+        Ok(())
+    }
+
+    // A byte in or behind a word.
+    fn in_word(&mut self, start: usize, place: usize, byte: u8) -> Result<(), Fault>
+        requires sound { ⌜ Sound (now self) ⌝ }
+        requires start { ⌜ start ≤ length (vec-items (now self .text)) ⌝ }
+        ensures { λ r. ⌜ Steps r (goes (state (now (self .entry)) .done) (inWord (drop start (vec-items (now (self .entry) .text)))) byte) (now (self .exit)) ⌝ }
+    {
+        if goes_on(byte) {
+            return self.keep(byte, Mode::InWord(start));
+        }
+        let span = self.span_from(start);
+        self.emit(Token::Word(span))?;
+        self.begin(place, byte)
+    }
+
+    // A byte in or behind a number.
+    fn in_number(&mut self, number: u32, place: usize, byte: u8) -> Result<(), Fault>
+        requires sound { ⌜ Sound (now self) ⌝ }
+        ensures { λ r. ⌜ Steps r (goes (state (now (self .entry)) .done) (inNumber number) byte) (now (self .exit)) ⌝ }
+    {
+        if !byte.is_ascii_digit() {
+            self.emit(Token::Number(number))?;
+            return self.begin(place, byte);
+        }
+        let more = u64::from(number) * 10 + u64::from(byte.saturating_sub(b'0'));
+        if more > LARGEST {
+            return Err(Fault::Large { place });
+        }
+        self.mode = Mode::InNumber(more as u32);
+        Ok(())
+    }
+
+    // A byte in a quoted text.
+    fn in_quote(&mut self, start: usize, byte: u8) -> Result<(), Fault>
+        requires sound { ⌜ Sound (now self) ⌝ }
+        requires start { ⌜ start ≤ length (vec-items (now self .text)) ⌝ }
+        ensures { λ r. ⌜ Steps r (goes (state (now (self .entry)) .done) (inQuote (drop start (vec-items (now (self .entry) .text)))) byte) (now (self .exit)) ⌝ }
+    {
+        match byte {
+            b'"' => {
+                let span = self.span_from(start);
+                self.emit(Token::Quoted(span))?;
+            }
+            b'\\' => self.mode = Mode::InEscape(start),
+            _ => self.keep(byte, Mode::InQuote(start))?,
+        }
+        Ok(())
+    }
+
+    // The byte behind a backslash.
+    fn in_escape(&mut self, start: usize, place: usize, byte: u8) -> Result<(), Fault>
+        requires sound { ⌜ Sound (now self) ⌝ }
+        requires start { ⌜ start ≤ length (vec-items (now self .text)) ⌝ }
+        ensures { λ r. ⌜ Steps r (goes (state (now (self .entry)) .done) (inEscape (drop start (vec-items (now (self .entry) .text)))) byte) (now (self .exit)) ⌝ }
+    {
+        match byte {
+            b'x' => self.mode = Mode::InHigh(start),
+            b'"' | b'\\' => self.keep(byte, Mode::InQuote(start))?,
+            _ => return Err(Fault::Escape { place, byte }),
+        }
+        Ok(())
+    }
+
+    // The first digit of an escaped byte.
+    fn in_high(&mut self, start: usize, place: usize, byte: u8) -> Result<(), Fault>
+        requires sound { ⌜ Sound (now self) ⌝ }
+        requires start { ⌜ start ≤ length (vec-items (now self .text)) ⌝ }
+        ensures { λ r. ⌜ Steps r (goes (state (now (self .entry)) .done) (inHigh (drop start (vec-items (now (self .entry) .text)))) byte) (now (self .exit)) ⌝ }
+    {
+        let Some(high) = hex_value(byte) else {
+            return Err(Fault::Escape { place, byte });
+        };
+        self.mode = Mode::InLow { start, high };
+        Ok(())
+    }
+
+    // The second digit of an escaped byte.
+    fn in_low(&mut self, start: usize, high: u8, place: usize, byte: u8) -> Result<(), Fault>
+        requires sound { ⌜ Sound (now self) ⌝ }
+        requires start { ⌜ start ≤ length (vec-items (now self .text)) ⌝ }
+        requires bound { ⌜ high ≤ 15 ⌝ }
+        ensures { λ r. ⌜ Steps r (goes (state (now (self .entry)) .done) (inLow (drop start (vec-items (now (self .entry) .text))) high) byte) (now (self .exit)) ⌝ }
+    {
+        let Some(low) = hex_value(byte) else {
+            return Err(Fault::Escape { place, byte });
+        };
+        self.keep(high * 16 + low, Mode::InQuote(start))
     }
 }
