@@ -19,7 +19,7 @@ use Rattle.script.specs.declared.tokens.Mode.the-variants.{Between, InWord, In
 use Rattle.script.specs.declared.tokens.Lexer.{Lexer}
 use Rattle.script.specs.declared.tokens.Tokens.{Tokens}
 use Rattle.script.specs.Tokens as tokens
-use Rattle.script.specs.Tokens.{Tok, Pending, State, lex, finish}
+use Rattle.script.specs.Tokens.{Tok, Pending, State}
 
 -- the bytes of a span
 abbrev pub bytes : List ℕ → Span → List ℕ
@@ -110,7 +110,12 @@ abbrev pub Steps : {X : Type 0} → Result X Fault → Option State → Lexer �
 Steps (Ok u) o l = Came o l
 Steps (Err e) o l = Refuses e (o ≡ None)
 
--- the tokens of a line, each span within the text
-pub record Reads (line : List ℕ) (t : Tokens) : Type 0 where
-  pub value : lex line ≡ Some (map (seen (vec-items (t .text))) (vec-items (t .tokens)))
+-- the tokens that there should be, each span within the text
+pub record Listed (o : Option (List Tok)) (t : Tokens) : Type 0 where
+  pub value : o ≡ Some (map (seen (vec-items (t .text))) (vec-items (t .tokens)))
   pub within : Every (Within (length (vec-items (t .text)))) (vec-items (t .tokens))
+
+-- a cut line has the tokens that it should, or there are none
+abbrev pub Ends : Result Tokens Fault → Option (List Tok) → Type 0
+Ends (Ok t) o = Listed o t
+Ends (Err e) o = Refuses e (o ≡ None)

@@ -7,3 +7,4 @@ pub use fault::Part;
 pub use tokens::Span;
 pub use tokens::Token;
 pub use tokens::Tokens;
+pub use tokens::tokens_of;

@@ -6,8 +6,8 @@ ghost use lib.ListN.{length, drop};
 ghost use Rattle.std.specs.Options.{Cases as BySome};
 ghost use Rattle.std.specs.Of.Vec.{vec-items, vec-len};
 ghost use Rattle.std.specs.declared.option.Option.the-variants.{Some, None};
-ghost use Rattle.script.specs.Tokens.{class, goesOn, hexValue, at, nothing, begins, goes, step, inWord, inNumber, inQuote, inEscape, inHigh, inLow};
-ghost use Rattle.script.specs.Seen.{bytes, Inside, seen, Within, pending, From, grown, state, Sound, Steps};
+ghost use Rattle.script.specs.Tokens.{class, goesOn, hexValue, at, nothing, begins, goes, step, ended, lex, inWord, inNumber, inQuote, inEscape, inHigh, inLow};
+ghost use Rattle.script.specs.Seen.{bytes, Inside, seen, Within, pending, From, grown, state, Sound, Steps, Ends};
 use crate::fault::Fault;
 use crate::fault::FaultFromRefused;
 use std::alloc::Global;
@@ -261,4 +261,57 @@ impl Lexer {
         };
         self.keep(high * 16 + low, Mode::InQuote(start))
     }
+
+    // One byte more of the line, at its place.
+    fn push(&mut self, place: usize, byte: u8) -> Result<(), Fault>
+        requires { ⌜ Sound (now self) ⌝ }
+        ensures { λ r. ⌜ Steps r (step (state (now (self .entry))) byte) (now (self .exit)) ⌝ }
+    {
+        match self.mode {
+            Mode::Between => self.begin(place, byte),
+            Mode::InWord(start) => self.in_word(start, place, byte),
+            Mode::InQuote(start) => self.in_quote(start, byte),
+            Mode::InEscape(start) => self.in_escape(start, place, byte),
+            Mode::InHigh(start) => self.in_high(start, place, byte),
+            Mode::InLow { start, high } => self.in_low(start, high, place, byte),
+            Mode::InNumber(number) => self.in_number(number, place, byte),
+            Mode::InArrow => match byte {
+                b'>' => self.emit(Token::Arrow),
+                _ => Err(Fault::Stray { place, byte }),
+            },
+        }
+    }
+
+    // The tokens where the line ends.
+    fn finish(mut self) -> Result<Tokens, Fault>
+        requires { ⌜ Sound self ⌝ }
+        ensures { λ r. ⌜ Ends r (ended (state self .done) (state self .pending)) ⌝ }
+    {
+        match self.mode {
+            Mode::Between => {}
+            Mode::InWord(start) => {
+                let span = self.span_from(start);
+                self.emit(Token::Word(span))?;
+            }
+            Mode::InNumber(number) => self.emit(Token::Number(number))?,
+            _ => return Err(Fault::Unfinished),
+        }
+        let Lexer { text, tokens, .. } = self;
+        Ok(Tokens { text, tokens })
+    }
+}
+
+// Cuts a line into its tokens.
+pub fn tokens_of(heap: Global, line: &[u8]) -> Result<Tokens, Fault>
+    ensures { λ r. ⌜ Ends r (lex (now (line .entry))) ⌝ }
+{
+    let mut lexer = Lexer {
+        text: Vec::new(heap),
+        tokens: Vec::new(heap),
+        mode: Mode::Between,
+    };
+    for (place, byte) in line.iter().enumerate() {
+        lexer.push(place, *byte)?;
+    }
+    lexer.finish()
 }
