@@ -1,2 +1,4 @@
 pub mod Lexing
 pub mod Runs
+pub mod Reading
+pub mod Refusing

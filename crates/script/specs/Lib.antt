@@ -1,2 +1,4 @@
 pub mod Tokens
 pub mod Seen
+pub mod Spelling
+pub mod Laws

@@ -1,9 +1,12 @@
 // Reads a line of a script.
 mod fault;
+mod items;
+mod lists;
 mod tokens;
 
 pub use fault::Fault;
 pub use fault::Part;
+pub use items::Text;
 pub use tokens::Span;
 pub use tokens::Token;
 pub use tokens::Tokens;
