@@ -2,3 +2,4 @@ pub mod Lexing
 pub mod Runs
 pub mod Reading
 pub mod Refusing
+pub mod Naming

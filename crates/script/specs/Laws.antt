@@ -36,9 +36,18 @@ back-of d t = back-go d (t .span) (t .«is_quoted»)
 pub same-text : (t u : Text) → textToken t ≡ textToken u → t ≡ u
 same-text t u e = sym (back-of t t) ∙ ap (back t) e ∙ back-of t u
 
+no-close : (s : Span) (q : Bool) → cond q (Quoted s) (Word s) ≡ Close → ⊥
+no-close s true e = let z : _≡_ {A = ℕ} 0 1 = cc in omega arith
+no-close s false e = let z : _≡_ {A = ℕ} 0 1 = cc in omega arith
+
+-- no text ends a list
+close-text : (t : Text) → textToken t ≡ Close → ⊥
+close-text t e = no-close (t .span) (t .«is_quoted») e
+
 pub texts-apart : Apart spelledText
 texts-apart = record {
   some = λ x. omega arith;
+  inner = λ x a b e. let h : textToken x ≡ Close = cc in close-text x h;
   only = λ x y a b e. let h : textToken x ≡ textToken y = cc in let t : a ≡ b = cc in (same-text x y h, t);
 }
 
@@ -68,8 +77,13 @@ some-name : (m : Option ArgumentName) (i : ℕ) → 0 < length (spelledName m (N
 some-name None i = omega arith
 some-name (Some m) i = omega arith
 
+inner-name : (m : Option ArgumentName) (i : ℕ) (a b : List Token) → spelledName m (Number i ∷ []) ++ a ≡ Close ∷ b → ⊥
+inner-name None i a b e = let z : _≡_ {A = ℕ} 0 1 = cc in omega arith
+inner-name (Some m) i a b e = let h : textToken (textOf m) ≡ Close = cc in close-text (textOf m) h
+
 pub arguments-apart : Apart spelledArgument
 arguments-apart = record {
   some = λ x. some-name (x .name) (x .id);
+  inner = λ x a b e. inner-name (x .name) (x .id) a b e;
   only = λ x y a b e. let h = arguments-only (x .name) (y .name) (x .id) (y .id) a b e in (λ i. record { id = h .0 i; name = h .1 i }, h .2);
 }

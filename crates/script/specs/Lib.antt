@@ -2,3 +2,4 @@ pub mod Tokens
 pub mod Seen
 pub mod Spelling
 pub mod Laws
+pub mod Lines

@@ -57,9 +57,10 @@ items spelled (x ∷ xs) = spelled x ++ tail spelled xs
 abbrev pub spelledList : {X : Type 0} → (X → List Token) → List X → List Token
 spelledList spelled xs = Open ∷ items spelled xs
 
--- each thing is spelled by some token, and no spelling begins another
+-- each thing is spelled by some token, first no end of a list, and no spelling begins another
 pub record Apart {X : Type 0} (spelled : X → List Token) : Type 0 where
   pub some : (x : X) → 0 < length (spelled x)
+  pub inner : (x : X) (a b : List Token) → spelled x ++ a ≡ Close ∷ b → ⊥
   pub only : (x y : X) (a b : List Token) → spelled x ++ a ≡ spelled y ++ b → (x ≡ y) × (a ≡ b)
 
 -- no spelling of such a thing begins the tokens

@@ -8,12 +8,13 @@ use std::alloc::Refused;
 #[derive(Clone, Copy)]
 pub enum Part {
     Keyword,
-    Name,
-    Open,
     Text,
+    Open,
     Argument,
+    Arrow,
     Id,
     Separator,
+    End,
 }
 
 #[derive(Clone, Copy)]

@@ -100,7 +100,7 @@ fn pointed(tokens: &[Token]) -> Result<&[Token], Fault>
 {
     match first(tokens) {
         Some((Token::Arrow, rest)) => Ok(rest),
-        _ => Err(Fault::Expected(Part::Argument)),
+        _ => Err(Fault::Expected(Part::Arrow)),
     }
 }
 

@@ -1,6 +1,7 @@
 // Reads a line of a script.
 mod fault;
 mod items;
+mod lines;
 mod lists;
 mod tokens;
 
@@ -11,3 +12,6 @@ pub use tokens::Span;
 pub use tokens::Token;
 pub use tokens::Tokens;
 pub use tokens::tokens_of;
+pub use lines::ArgumentsLine;
+pub use lines::FunctionLine;
+pub use lines::Line;

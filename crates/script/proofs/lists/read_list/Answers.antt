@@ -14,7 +14,7 @@ loop-item-holds g c =
 pub returns-in-Break-item : need.returns-in-Break-item
 returns-in-Break-item g c =
     let p = err-from-errBy (c .from-residual-in-Break-item .result) (c .from-residual-in-Break-item .ensures .1) in
-    list-none (g .T·Item .spelled) (c .args .tokens .now) _ (c .from-residual-in-Break-item .result) _ _ (p .1) (p .2)
+    list-none (g .T·Item .spelled) (c .args .tokens .now) _ (c .from-residual-in-Break-item .result) (c .in-Break-item .field-0 .0) _ (p .1) (p .2)
     (no-item (g .T·Item .spelled) (g .T·Item .apart) (c .args .tokens .now) (c .loop-item .rest .now) (vec-items (c .loop-item .items)) (c .loop-item .inv)) (c .in-Break-item .ensures tt)
 
 pub returns-in-Some-closed : need.returns-in-Some-closed
@@ -25,7 +25,7 @@ returns-in-Some-closed g c =
 pub returns-in-Break-rest-2 : need.returns-in-Break-rest-2
 returns-in-Break-rest-2 g c =
     let p = err-from-errBy (c .from-residual-in-Break-rest-2 .result) (c .from-residual-in-Break-rest-2 .ensures .1) in
-    list-none (g .T·Item .spelled) (c .args .tokens .now) _ (c .from-residual-in-Break-rest-2 .result) _ _ (p .1) (p .2)
+    list-none (g .T·Item .spelled) (c .args .tokens .now) _ (c .from-residual-in-Break-rest-2 .result) (c .in-Break-rest-2 .field-0 .0) _ (p .1) (p .2)
     (no-separator (g .T·Item .spelled) (g .T·Item .apart) (c .args .tokens .now) (c .loop-item .rest .now) (c .in-Continue-item .after .now) (vec-items (c .loop-item .items)) (c .in-Continue-item .item) (c .loop-item .inv) (c .in-Continue-item .ensures tt) (c .in-rest-closed .ensures tt)) (c .in-Break-rest-2 .ensures tt)
 
 pub loop-item-less : need.loop-item-less
