@@ -3,3 +3,4 @@ pub mod Runs
 pub mod Reading
 pub mod Refusing
 pub mod Naming
+pub mod Heading

@@ -3,3 +3,4 @@ pub mod Seen
 pub mod Spelling
 pub mod Laws
 pub mod Lines
+pub mod Whole

@@ -63,6 +63,10 @@ Named {X} spelled ts xs (Err e) = Refuses e ((n : Text) (ys : List X) → ts ≡
 abbrev pub argument : Written → Argument
 argument w = record { id = w .id; «type_number» = 0 }
 
+-- the name that it is written with
+abbrev pub nameIn : Written → Option ArgumentName
+nameIn w = w .name
+
 -- each argument with the name at its place
 abbrev pub paired : List Argument → List (Option ArgumentName) → List Written
 paired [] ns = []
@@ -94,3 +98,7 @@ Unspelled text ts = (f : Form) → Spelled text f ts → ⊥
 abbrev pub Lined : List ℕ → List Token → Result Line Fault → Type 0
 Lined text ts (Ok l) = Found text ts l
 Lined text ts (Err e) = Refuses e (Unspelled text ts)
+
+-- behind the token of a keyword, the line that the tokens spell, or none
+abbrev pub Heads : Keyword → List Token → Result Line Fault → Type 0
+Heads k rest r = (text : List ℕ) (t : Token) → Says text t k → Lined text (t ∷ rest) r

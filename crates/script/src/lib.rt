@@ -3,11 +3,14 @@ mod fault;
 mod items;
 mod lines;
 mod lists;
+mod reads;
 mod tokens;
 
 pub use fault::Fault;
 pub use fault::Part;
 pub use items::Text;
+pub use reads::ReadLine;
+pub use reads::read_line;
 pub use tokens::Span;
 pub use tokens::Token;
 pub use tokens::Tokens;

@@ -7,11 +7,13 @@ ghost use Rattle.std.specs.Options.{Cases as BySome};
 ghost use Rattle.std.specs.Orderings.{Decides};
 ghost use Rattle.std.specs.Results.{Cases as ByOk};
 ghost use Rattle.std.specs.Vec.{Every};
-ghost use Rattle.script.specs.Lines.{Says, Named, argument, Lined};
+ghost use Rattle.script.specs.Lines.{Says, Named, argument, nameIn, Heads, Lined};
+ghost use Rattle.script.specs.declared.lines.Keyword.the-variants.{Function, Arguments};
 ghost use Rattle.script.specs.Seen.{bytes, Inside, Within, Refuses};
 use crate::fault::Fault;
 use crate::fault::FaultFromRefused;
 use crate::fault::Part;
+use crate::items::first;
 use crate::items::Item;
 use crate::items::Text;
 use crate::items::TextItem;
@@ -91,4 +93,59 @@ fn read_named<T: Item + Drop>(tokens: &[Token], items: &mut Vec<T>) -> Result<Te
         return Err(Fault::Expected(Part::End));
     }
     Ok(name)
+}
+
+// The arguments and their names, each in a list of its own.
+fn split(
+    heap: Global,
+    written: &[Written],
+) -> Result<(Vec<Argument>, Vec<Option<ArgumentName>>), Fault>
+    ensures { λ r. ⌜ ByOk r (λ p. (vec-items (p .0) ≡ map argument (now (written .entry))) × (vec-items (p .1) ≡ map nameIn (now (written .entry)))) (λ e. Refuses e ⊥) ⌝ }
+{
+    let mut args = Vec::new(heap);
+    let mut names = Vec::new(heap);
+    for w in written {
+        args.push(Argument {
+            id: w.id,
+            type_number: 0,
+        })?;
+        names.push(w.name)?;
+    }
+    Ok((args, names))
+}
+
+// What follows the keyword `function`.
+fn read_function(heap: Global, tokens: &[Token]) -> Result<Line, Fault>
+    ensures { λ r. ⌜ Heads Function (now (tokens .entry)) r ⌝ }
+{
+    let mut params = Vec::new(heap);
+    let name = read_named(tokens, &mut params)?;
+    Ok(Line::Function(FunctionLine { name, params }))
+}
+
+// What follows the keyword `arguments`.
+fn read_arguments(heap: Global, tokens: &[Token]) -> Result<Line, Fault>
+    ensures { λ r. ⌜ Heads Arguments (now (tokens .entry)) r ⌝ }
+{
+    let mut written: Vec<Written> = Vec::new(heap);
+    let name = read_named(tokens, &mut written)?;
+    let (args, names) = split(heap, written.as_slice())?;
+    Ok(Line::Arguments(ArgumentsLine { name, args, names }))
+}
+
+// The line that the tokens spell.
+pub(crate) fn line_of(heap: Global, text: &[u8], tokens: &[Token]) -> Result<Line, Fault>
+    requires { ⌜ Every (Within (length (now text))) (now tokens) ⌝ }
+    ensures { λ r. ⌜ Lined (now (text .entry)) (now (tokens .entry)) r ⌝ }
+{
+    let Some((token, rest)) = first(tokens) else {
+        return Ok(Line::Blank);
+    };
+    let Some(keyword) = keyword_of(text, token) else {
+        return Err(Fault::Expected(Part::Keyword));
+    };
+    match keyword {
+        Keyword::Function => read_function(heap, rest),
+        Keyword::Arguments => read_arguments(heap, rest),
+    }
 }
