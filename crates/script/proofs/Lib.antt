@@ -4,3 +4,7 @@ pub mod Reading
 pub mod Refusing
 pub mod Naming
 pub mod Heading
+pub mod Comments
+pub mod Unmapping
+pub mod Insides
+pub mod Answering

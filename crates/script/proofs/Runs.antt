@@ -68,6 +68,7 @@ listed-now l m s e i =
 -- a lexer that has seen nothing
 pub fresh : (l : Lexer) (line : List ℕ) → vec-items (l .tokens) ≡ [] → l .mode ≡ Between → Sound l × (run (state l) line ≡ run (at [] nothing) line)
 fresh l line e m =
-    let text = vec-items (l .text) in
-    (record { spans = subst (Every (Within (length text))) (sym e) tt; start = subst (From (length text)) (sym m) tt },
-     λ i. run (at (map (seen text) (e i)) (pending text (m i))) line)
+    let text = vec-items (l .text) in (
+      record { spans = subst (Every (Within (length text))) (sym e) tt; start = subst (From (length text)) (sym m) tt },
+      λ i. run (at (map (seen text) (e i)) (pending text (m i))) line,
+    )

@@ -1,6 +1,6 @@
 // Reads a line of a script from its bytes.
 ghost use mathlib.Core.Path.{_≡_};
-ghost use Rattle.script.specs.Whole.{comment, Answers};
+ghost use Rattle.script.specs.Whole.{isBlank, comment, Answers};
 use crate::fault::Fault;
 use crate::lines::Line;
 use crate::lines::line_of;
@@ -15,14 +15,19 @@ pub struct ReadLine {
     pub line: Line,
 }
 
+fn is_blank(byte: u8) -> bool
+    ensures { λ r. ⌜ r ≡ isBlank byte ⌝ }
+{
+    byte == b' ' || byte == b'\t'
+}
+
 // Whether the first byte that is no blank is `#`.
 fn is_comment(line: &[u8]) -> bool
     ensures { λ r. ⌜ r ≡ comment (now (line .entry)) ⌝ }
 {
     for byte in line {
-        match *byte {
-            b' ' | b'\t' => {}
-            first => return first == b'#',
+        if !is_blank(*byte) {
+            return *byte == b'#';
         }
     }
     false

@@ -1,18 +1,11 @@
-use borrow.Author.Needs.{needs}
+use Rattle.script.proofs.Comments.{blank-more, decided, all-blank}
 use Rattle.script.proofs.reads.is_comment.Needs as need
 
--- src/reads.rt:22:5
-pub loop-byte-holds : need.loop-byte-holds
-loop-byte-holds c = ?
+pub returns-then-not-is-blank : need.returns-then-not-is-blank
+returns-then-not-is-blank c = decided (c .args .line .now) (c .loop-byte .byte-index) (c .loop-byte-test .taken) (c .if-not-is-blank .ensures tt) (c .loop-byte .inv)
 
--- src/reads.rt:25:22
-pub returns-in-rest : need.returns-in-rest
-returns-in-rest c = ?
-
--- src/reads.rt:22:5
 pub loop-byte-again : need.loop-byte-again
-loop-byte-again c = ?
+loop-byte-again c = blank-more (c .args .line .now) (c .loop-byte .byte-index) (c .loop-byte-test .taken) (c .if-not-is-blank .ensures tt) (c .loop-byte .inv)
 
--- src/reads.rt:19:1
 pub returns : need.returns
-returns c = ?
+returns c = all-blank (c .args .line .now) (c .loop-byte .byte-index) (c .loop-byte-test .left) (c .loop-byte .inv)
