@@ -1,0 +1,10 @@
+pub mod Lexing
+pub mod Runs
+pub mod Reading
+pub mod Refusing
+pub mod Naming
+pub mod Heading
+pub mod Comments
+pub mod Unmapping
+pub mod Insides
+pub mod Answering

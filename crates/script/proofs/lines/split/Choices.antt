@@ -1,0 +1,9 @@
+use mathlib.Core.Path.{_≡_}
+use mathlib.Core.List.{map}
+use lib.ListN.{take}
+use Rattle.std.specs.Of.Vec.{vec-items}
+use Rattle.script.specs.Lines.{argument, nameIn}
+use Rattle.script.proofs.lines.split.Given as given
+
+abbrev pub Inv-loop-w : given.InvT-loop-w
+Inv-loop-w l = (vec-items (l .args) ≡ map argument (take (l .w-index) (l .written))) × (vec-items (l .names) ≡ map nameIn (take (l .w-index) (l .written)))
