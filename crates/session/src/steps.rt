@@ -75,6 +75,17 @@ fn unfit_for(text: &[u8], line: &FunctionLine) -> Option<Refusal>
     None
 }
 
+// A function of its own, from the line that writes it.
+fn copied(heap: Global, text: &[u8], line: &FunctionLine) -> Result<Function, AllocError>
+    ensures { λ r. ⌜ made r (λ f. known f ≡ writes (now (text .entry)) (now (line .entry))) ⌝ }
+{
+    let text = Vec::from_slice(heap, text)?;
+    let params = Vec::from_slice(heap, line.params.as_slice())?;
+    let name = line.name;
+    let line = FunctionLine { name, params };
+    Ok(Function { text, line })
+}
+
 impl Function {
     pub fn is_named(&self, name: &[u8]) -> bool
         ensures { λ r. ⌜ r ≡ sameBytes (known (now (self .entry)) .name) (now (name .entry)) ⌝ }
@@ -104,14 +115,20 @@ impl Session {
     }
 
     // Takes one function more. The answer is its number.
-    pub fn add_function(&mut self, text: Vec<u8>, line: FunctionLine) -> Result<usize, Failure>
-        ensures { λ r. ⌜ Adds (functions (now (self .entry))) (writes (vec-items text) line) r (functions (now (self .exit))) ⌝ }
+    pub fn add_function(
+        &mut self,
+        heap: Global,
+        text: &[u8],
+        line: &FunctionLine,
+    ) -> Result<usize, Failure>
+        ensures { λ r. ⌜ Adds (functions (now (self .entry))) (writes (now (text .entry)) (now (line .entry))) r (functions (now (self .exit))) ⌝ }
     {
-        if let Some(refusal) = unfit_for(text.as_slice(), &line) {
+        if let Some(refusal) = unfit_for(text, line) {
             return Err(Failure::Refused(refusal));
         }
         let number = self.functions.len();
-        self.functions.push(Function { text, line })?;
+        let function = copied(heap, text, line)?;
+        self.functions.push(function)?;
         Ok(number)
     }
 
