@@ -3,7 +3,6 @@ ghost use mathlib.Core.Path.{_≡_};
 ghost use Rattle.script.specs.declared.fault.Fault.the-variants.{Memory};
 use std::alloc::AllocError;
 use std::alloc::Refused;
-use std::fmt;
 
 // What should stand where a line does not go on.
 #[derive(Clone, Copy)]
@@ -46,42 +45,6 @@ pub impl<T: Drop> From<Refused<T>> for Fault as FaultFromRefused {
     ghost converts = { λ _ r. r ≡ Memory };
 
     fn from(_e: Refused<T>) -> Fault {
-        Fault::Memory
-    }
-}
-
-pub impl fmt::Display for Part as PartDisplay {
-    fn fmt<W: fmt::Write>(&self, f: &mut fmt::Formatter<W>) -> fmt::Result {
-        let words = match self {
-            Part::Keyword => "`function` or `arguments`",
-            Part::Text => "a name",
-            Part::Open => "`(`",
-            Part::Argument => "an argument",
-            Part::Arrow => "`=>`",
-            Part::Id => "the number of an argument",
-            Part::Separator => "`,` or `)`",
-            Part::End => "the end of the line",
-        };
-        write!(f, "{words}")
-    }
-}
-
-// A message in plain words.
-pub impl fmt::Display for Fault as FaultDisplay {
-    fn fmt<W: fmt::Write>(&self, f: &mut fmt::Formatter<W>) -> fmt::Result {
-        match *self {
-            Fault::Memory => write!(f, "there is not enough memory"),
-            Fault::Stray { place, byte } => {
-                write!(f, "byte {byte:#04x} at place {place} begins nothing")
-            }
-            Fault::Escape { place, byte } => {
-                write!(f, "byte {byte:#04x} at place {place} belongs to no escape")
-            }
-            Fault::Large { place } => {
-                write!(f, "the number at place {place} has more than 32 bits")
-            }
-            Fault::Unfinished => write!(f, "the line ends in a quoted text or an arrow"),
-            Fault::Expected(what) => write!(f, "expected {what}"),
-        }
+        Self::Memory
     }
 }
