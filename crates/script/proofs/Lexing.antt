@@ -23,7 +23,7 @@ use Rattle.script.specs.declared.tokens.Mode.the-variants.{Between, InWord, In
 use Rattle.script.specs.declared.tokens.Lexer.{Lexer}
 use Rattle.script.specs.Tokens as tokens
 use Rattle.script.specs.Tokens.{Tok, Pending, State, at, nothing, begins, class}
-use Rattle.script.specs.Seen.{bytes, seen, Inside, Within, pending, From, grown, state, Sound, Came, Steps}
+use Rattle.script.specs.Seen.{bytes, seen, Inside, Within, pending, From, grown, state, Sound, Came}
 
 bytes-grown : (text more : List ℕ) (s : Span) → Inside (length text) s → bytes (text ++ more) s ≡ bytes text s
 bytes-grown text more s h =
@@ -101,10 +101,6 @@ emitted l l′ t s w x e m =
         start = subst (From (length (vec-items (l′ .text)))) (sym m) tt;
       };
     }
-
--- want of memory says nothing more
-pub out-of-memory : {X : Type 0} (r : Result X Fault) (o : Option State) (l : Lexer) → ((y : Fault) × (r ≡ Err y) × (y ≡ Memory)) → Steps r o l
-out-of-memory r o l p = subst (λ q. Steps q o l) (sym (p .1 ∙ ap Err (p .2))) tt
 
 -- from the end of the text on there is nothing
 pub word-began : (ts : List Tok) (text : List ℕ) (b n : ℕ) (l : Lexer) → n ≡ length text → Letter ≡ class b → Came (Some (at ts (tokens.inWord (drop n text ++ b ∷ [])))) l → Came (begins ts b (class b)) l

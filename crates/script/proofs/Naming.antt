@@ -11,14 +11,14 @@ use Rattle.script.specs.declared.fault.Fault.{Fault}
 use Rattle.script.specs.declared.tokens.Token.{Token}
 use Rattle.script.specs.declared.tokens.Token.the-variants.{Open, Close, Comma}
 use Rattle.script.specs.declared.items.Text.{Text}
-use Rattle.script.specs.Seen.{Refuses}
+use Rattle.script.specs.Seen.{Expects}
 use Rattle.script.specs.Spelling.{textToken, spelledText, tail, items, spelledList, Apart, Foreign}
 use Rattle.script.specs.Lines.{spelledNamed, Named}
-use Rattle.script.proofs.Runs.{refuses-more}
+use Rattle.script.proofs.Runs.{expects-more}
 
 -- a refusal that is handed on
-pub named-none : {X : Type 0} (spelled : X → List Token) (ts : List Token) (xs : List X) (r : Result Text Fault) (e y : Fault) {P : Type 0} → r ≡ Err y → y ≡ e → (P → (n : Text) (ys : List X) → ts ≡ spelledNamed spelled n ys → ⊥) → Refuses e P → Named spelled ts xs r
-named-none spelled ts xs r e y p q f n = subst (Named spelled ts xs) (sym (p ∙ ap Err q)) (refuses-more e f n)
+pub named-none : {X : Type 0} (spelled : X → List Token) (ts : List Token) (xs : List X) (r : Result Text Fault) (e y : Fault) {P : Type 0} → r ≡ Err y → y ≡ e → (P → (n : Text) (ys : List X) → ts ≡ spelledNamed spelled n ys → ⊥) → Expects e P → Named spelled ts xs r
+named-none spelled ts xs r e y p q f n = subst (Named spelled ts xs) (sym (p ∙ ap Err q)) (expects-more e f n)
 
 module _ {X : Type 0} (spelled : X → List Token) (apart : Apart spelled) where
   -- what follows the rest of a list is told by the tokens

@@ -102,6 +102,9 @@ word-back text Close b e = let z : _≡_ {A = ℕ} 0 1 = cc in absurd (omega ari
 word-back text Comma b e = let z : _≡_ {A = ℕ} 0 1 = cc in absurd (omega arith)
 word-back text Arrow b e = let z : _≡_ {A = ℕ} 0 1 = cc in absurd (omega arith)
 
+comma-then : (ts rest a b u v : List Token) (t : Token) → ts ≡ t ∷ rest → t ≡ Comma → rest ≡ a ++ b → a ≡ u → b ≡ v → ts ≡ Comma ∷ (u ++ v)
+comma-then ts rest a b u v t e p q h k = e ∙ (λ i. p i ∷ (q ∙ (λ j. h j ++ k j)) i)
+
 module _ (text : List ℕ) where
   nil-back : (ts : List Token) → map (seen text) ts ≡ [] → ts ≡ []
   nil-back [] e = refl
@@ -166,7 +169,7 @@ module _ (text : List ℕ) where
           let g = append-back (c .1) (map (seen other) (spelled x)) (map (seen other) (tail spelled xs)) (c .4 ∙ map-append (seen other) (spelled x) (tail spelled xs)) in
           let y = back (g .0) x (g .3) in
           let r = tail-back xs (g .1) (g .4) in
-          (y .0 ∷ r .0, c .2 ∙ (λ i. same-plain (c .0) Comma tt refl (c .3) i ∷ (g .2 ∙ (λ j. y .1 j ++ r .1 j)) i))
+          (y .0 ∷ r .0, comma-then ts (c .1) (g .0) (g .1) (spelled (y .0)) (tail spelled (r .0)) (c .0) (c .2) (same-plain (c .0) Comma tt refl (c .3)) (g .2) (y .1) (r .1))
 
       items-back : (xs : List X) (ts : List Token) → map (seen text) ts ≡ map (seen other) (items spelled xs) → (ys : List X) × (ts ≡ items spelled ys)
       items-back [] ts e =

@@ -22,7 +22,7 @@ use Rattle.script.specs.declared.lines.Keyword.{Keyword}
 use Rattle.script.specs.declared.lines.Keyword.the-variants as keyword
 use Rattle.script.specs.declared.lines.Line.{Line}
 use Rattle.script.specs.declared.lines.Line.the-variants as line
-use Rattle.script.specs.Seen.{bytes, Refuses}
+use Rattle.script.specs.Seen.{bytes, Expects}
 use Rattle.script.specs.Spelling.{textToken, spelledText, spelledArgument, spelledList}
 
 -- what a line says
@@ -57,7 +57,7 @@ Spelled text (arguments n ws) ts = Headed text keyword.Arguments (spelledNamed s
 -- the tokens are a name and the list of these items; or they are no name and list
 abbrev pub Named : {X : Type 0} → (X → List Token) → List Token → List X → Result Text Fault → Type 0
 Named spelled ts xs (Ok n) = ts ≡ spelledNamed spelled n xs
-Named {X} spelled ts xs (Err e) = Refuses e ((n : Text) (ys : List X) → ts ≡ spelledNamed spelled n ys → ⊥)
+Named {X} spelled ts xs (Err e) = Expects e ((n : Text) (ys : List X) → ts ≡ spelledNamed spelled n ys → ⊥)
 
 -- the argument that is written, of the type number 0
 abbrev pub argument : Written → Argument
@@ -97,7 +97,7 @@ Unspelled text ts = (f : Form) → Spelled text f ts → ⊥
 -- the line that the tokens spell, or none
 abbrev pub Lined : List ℕ → List Token → Result Line Fault → Type 0
 Lined text ts (Ok l) = Found text ts l
-Lined text ts (Err e) = Refuses e (Unspelled text ts)
+Lined text ts (Err e) = Expects e (Unspelled text ts)
 
 -- behind the token of a keyword, the line that the tokens spell, or none
 abbrev pub Heads : Keyword → List Token → Result Line Fault → Type 0

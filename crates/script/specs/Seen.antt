@@ -1,8 +1,8 @@
 -- What the tokens and the lexer of the code stand for. Assumes nothing.
 use mathlib.Core.Path.{_≡_}
 use mathlib.Core.List.{List, [], _∷_, _++_, map}
-use Prim.Native.Nat.{ℕ, _+_, _≤_}
-use lib.ListN.{length, take, drop}
+use Prim.Native.Nat.{ℕ, _+_, _<_, _≤_}
+use lib.ListN.{length, getD, take, drop}
 use Rattle.std.specs.Of.Vec.{vec-items}
 use Rattle.std.specs.Vec.{Every}
 use Rattle.std.specs.declared.option.Option.{Option}
@@ -19,7 +19,7 @@ use Rattle.script.specs.declared.tokens.Mode.the-variants.{Between, InWord, In
 use Rattle.script.specs.declared.tokens.Lexer.{Lexer}
 use Rattle.script.specs.declared.tokens.Tokens.{Tokens}
 use Rattle.script.specs.Tokens as tokens
-use Rattle.script.specs.Tokens.{Tok, Pending, State}
+use Rattle.script.specs.Tokens.{Tok, Pending, State, step, run, finish}
 
 -- the bytes of a span
 abbrev pub bytes : List ℕ → Span → List ℕ
@@ -100,20 +100,70 @@ Refuses (Large place) P = P
 Refuses Unfinished P = P
 Refuses (Expected what) P = P
 
+-- a fault of the tokens says P, unless it is want of memory
+abbrev pub Expects : Fault → Type 0 → Type 0
+Expects Memory P = Unit {0}
+Expects (Stray place byte) P = ⊥
+Expects (Escape place byte) P = ⊥
+Expects (Large place) P = ⊥
+Expects Unfinished P = ⊥
+Expects (Expected what) P = P
+
 -- a lexer that has come to a state
 pub record Came (o : Option State) (l : Lexer) : Type 0 where
   pub same : o ≡ Some (state l)
   pub sound : Sound l
 
--- a step either comes to the state that it should, or there is none
-abbrev pub Steps : {X : Type 0} → Result X Fault → Option State → Lexer → Type 0
-Steps (Ok u) o l = Came o l
-Steps (Err e) o l = Refuses e (o ≡ None)
+-- a step that only want of memory stops comes to the state that it should
+abbrev pub Grows : {X : Type 0} → Result X Fault → Option State → Lexer → Type 0
+Grows (Ok u) o l = Came o l
+Grows (Err e) o l = e ≡ Memory
+
+-- a fault about a byte at its place says P, unless it is want of memory
+abbrev pub Blames : ℕ → ℕ → Fault → Type 0 → Type 0
+Blames place byte Memory P = Unit {0}
+Blames place byte (Stray q c) P = (q ≡ place) × (c ≡ byte) × P
+Blames place byte (Escape q c) P = (q ≡ place) × (c ≡ byte) × P
+Blames place byte (Large q) P = (q ≡ place) × P
+Blames place byte Unfinished P = ⊥
+Blames place byte (Expected what) P = ⊥
+
+-- a byte at its place brings the state that it should, or there is none
+abbrev pub Steps : {X : Type 0} → ℕ → ℕ → Result X Fault → Option State → Lexer → Type 0
+Steps place byte (Ok u) o l = Came o l
+Steps place byte (Err e) o l = Blames place byte e (o ≡ None)
 
 -- the tokens that there should be, each span within the text
 pub record Listed (o : Option (List Tok)) (t : Tokens) : Type 0 where
   pub value : o ≡ Some (map (seen (vec-items (t .text))) (vec-items (t .tokens)))
   pub within : Every (Within (length (vec-items (t .text)))) (vec-items (t .tokens))
+
+-- a fault at the end of a line says P, unless it is want of memory
+abbrev pub Unended : Fault → Type 0 → Type 0
+Unended Memory P = Unit {0}
+Unended (Stray q c) P = ⊥
+Unended (Escape q c) P = ⊥
+Unended (Large q) P = ⊥
+Unended Unfinished P = P
+Unended (Expected what) P = ⊥
+
+-- where the line ends there are the tokens that there should be, or none
+abbrev pub Finishes : Result Tokens Fault → Option (List Tok) → Type 0
+Finishes (Ok t) o = Listed o t
+Finishes (Err e) o = Unended e (o ≡ None)
+
+-- the machine takes every byte before this place, and not the one there
+abbrev pub Stuck : List ℕ → ℕ → Type 0
+Stuck line q = (q < length line) × ((s : State) × (run (tokens.at [] tokens.nothing) (take q line) ≡ Some s) × (step s (getD line q 0) ≡ None))
+
+-- a fault of the bytes of a line: the first place that the machine does not take, and the byte there
+abbrev pub Faulty : List ℕ → Fault → Type 0
+Faulty line Memory = Unit {0}
+Faulty line (Stray q c) = Stuck line q × (c ≡ getD line q 0)
+Faulty line (Escape q c) = Stuck line q × (c ≡ getD line q 0)
+Faulty line (Large q) = Stuck line q
+Faulty line Unfinished = (s : State) × (run (tokens.at [] tokens.nothing) line ≡ Some s) × (finish s ≡ None)
+Faulty line (Expected what) = Unit {0}
 
 -- a cut line has the tokens that it should, or there are none
 abbrev pub Ends : Result Tokens Fault → Option (List Tok) → Type 0

@@ -16,7 +16,7 @@ use Rattle.script.specs.declared.tokens.Token.{Token}
 use Rattle.script.specs.declared.tokens.Token.the-variants.{Word, Quoted, Number, Open, Close, Comma, Arrow}
 use Rattle.script.specs.declared.items.Text.{Text}
 use Rattle.script.specs.declared.items.Written.{Written}
-use Rattle.script.specs.Seen.{Refuses}
+use Rattle.script.specs.Seen.{Expects}
 
 -- the token of a text: quoted, or a word
 abbrev pub textToken : Text → Token
@@ -70,14 +70,14 @@ Foreign {X} spelled ts = (x : X) (rest : List Token) → ts ≡ spelled x ++ res
 -- what the tokens begin with, and what follows it; or that they begin with none
 abbrev pub Begins : {X : Type 0} → (X → List Token) → List Token → Result (X × RefT (List Token)) Fault → Type 0
 Begins spelled ts (Ok p) = ts ≡ spelled (p .0) ++ p .1 .now
-Begins spelled ts (Err e) = Refuses e (Foreign spelled ts)
+Begins spelled ts (Err e) = Expects e (Foreign spelled ts)
 
 -- the tokens begin with the list of these items, and what follows it; or they begin with no list
 abbrev pub BeginsList : {X : Type 0} → (X → List Token) → List Token → List X → Result (RefT (List Token)) Fault → Type 0
 BeginsList spelled ts xs (Ok rest) = ts ≡ spelledList spelled xs ++ rest .now
-BeginsList spelled ts xs (Err e) = Refuses e (Foreign (spelledList spelled) ts)
+BeginsList spelled ts xs (Err e) = Expects e (Foreign (spelledList spelled) ts)
 
 -- what follows a given token; or that the tokens do not begin with it
 abbrev pub Follows : Token → List Token → Result (RefT (List Token)) Fault → Type 0
 Follows t ts (Ok rest) = ts ≡ t ∷ rest .now
-Follows t ts (Err e) = Refuses e ((rest : List Token) → ts ≡ t ∷ rest → ⊥)
+Follows t ts (Err e) = Expects e ((rest : List Token) → ts ≡ t ∷ rest → ⊥)

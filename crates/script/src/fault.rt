@@ -45,6 +45,6 @@ pub impl<T: Drop> From<Refused<T>> for Fault as FaultFromRefused {
     ghost converts = { λ _ r. r ≡ Memory };
 
     fn from(_e: Refused<T>) -> Fault {
-        Fault::Memory
+        Self::Memory
     }
 }

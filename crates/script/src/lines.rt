@@ -9,7 +9,7 @@ ghost use Rattle.std.specs.Results.{Cases as ByOk};
 ghost use Rattle.std.specs.Vec.{Every};
 ghost use Rattle.script.specs.Lines.{Says, Named, argument, nameIn, Heads, Lined};
 ghost use Rattle.script.specs.declared.lines.Keyword.the-variants.{Function, Arguments};
-ghost use Rattle.script.specs.Seen.{bytes, Inside, Within, Refuses};
+ghost use Rattle.script.specs.Seen.{bytes, Inside, Within, Expects};
 use crate::fault::Fault;
 use crate::fault::FaultFromRefused;
 use crate::fault::Part;
@@ -100,7 +100,7 @@ fn split(
     heap: Global,
     written: &[Written],
 ) -> Result<(Vec<Argument>, Vec<Option<ArgumentName>>), Fault>
-    ensures { λ r. ⌜ ByOk r (λ p. (vec-items (p .0) ≡ map argument (now (written .entry))) × (vec-items (p .1) ≡ map nameIn (now (written .entry)))) (λ e. Refuses e ⊥) ⌝ }
+    ensures { λ r. ⌜ ByOk r (λ p. (vec-items (p .0) ≡ map argument (now (written .entry))) × (vec-items (p .1) ≡ map nameIn (now (written .entry)))) (λ e. Expects e ⊥) ⌝ }
 {
     let mut args = Vec::new(heap);
     let mut names = Vec::new(heap);

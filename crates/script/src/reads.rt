@@ -1,5 +1,7 @@
 // Reads a line of a script from its bytes.
 ghost use mathlib.Core.Path.{_≡_};
+ghost use Rattle.std.specs.Vec.{refused};
+ghost use Rattle.script.specs.Seen.{Faulty};
 ghost use Rattle.script.specs.Whole.{isBlank, comment, Answers};
 use crate::fault::Fault;
 use crate::lines::Line;
@@ -35,7 +37,8 @@ fn is_comment(line: &[u8]) -> bool
 
 // Reads one line, without its end. A blank line and a comment say nothing.
 pub fn read_line(heap: Global, line: &[u8]) -> Result<ReadLine, Fault>
-    ensures { λ r. ⌜ Answers (now (line .entry)) r ⌝ }
+    ensures cases { λ r. ⌜ Answers (now (line .entry)) r ⌝ }
+    ensures refused { λ r. ⌜ refused r (Faulty (now (line .entry))) ⌝ }
 {
     if is_comment(line) {
         return Ok(ReadLine {

@@ -5,9 +5,10 @@ ghost use Prim.Native.Nat.{ℕ, _+_, _-_, _*_, _<_, _≤_};
 ghost use lib.ListN.{length, drop};
 ghost use Rattle.std.specs.Options.{Cases as BySome};
 ghost use Rattle.std.specs.Of.Vec.{vec-items, vec-len};
+ghost use Rattle.std.specs.Vec.{refused};
 ghost use Rattle.std.specs.declared.option.Option.the-variants.{Some, None};
-ghost use Rattle.script.specs.Tokens.{class, goesOn, hexValue, at, nothing, begins, goes, step, ended, lex, inWord, inNumber, inQuote, inEscape, inHigh, inLow};
-ghost use Rattle.script.specs.Seen.{bytes, Inside, seen, Within, pending, From, grown, state, Sound, Steps, Ends};
+ghost use Rattle.script.specs.Tokens.{class, goesOn, hexValue, at, nothing, begins, goes, step, finish, lex, inWord, inNumber, inQuote, inEscape, inHigh, inLow};
+ghost use Rattle.script.specs.Seen.{bytes, Inside, seen, Within, pending, From, grown, state, Sound, Grows, Steps, Finishes, Faulty, Ends};
 use crate::fault::Fault;
 use crate::fault::FaultFromRefused;
 use std::alloc::Global;
@@ -122,7 +123,7 @@ impl Lexer {
     fn keep(&mut self, byte: u8, mode: Mode) -> Result<(), Fault>
         requires sound { ⌜ Sound (now self) ⌝ }
         requires start { ⌜ From (length (vec-items (now self .text))) mode ⌝ }
-        ensures { λ r. ⌜ Steps r (Some (at (state (now (self .entry)) .done) (grown (pending (vec-items (now (self .entry) .text)) mode) byte))) (now (self .exit)) ⌝ }
+        ensures { λ r. ⌜ Grows r (Some (at (state (now (self .entry)) .done) (grown (pending (vec-items (now (self .entry) .text)) mode) byte))) (now (self .exit)) ⌝ }
     {
         self.text.push(byte)?;
         self.mode = mode;
@@ -133,7 +134,7 @@ impl Lexer {
     fn emit(&mut self, token: Token) -> Result<(), Fault>
         requires sound { ⌜ Sound (now self) ⌝ }
         requires within { ⌜ Within (length (vec-items (now self .text))) token ⌝ }
-        ensures { λ r. ⌜ Steps r (Some (at (state (now (self .entry)) .done ++ seen (vec-items (now (self .entry) .text)) token ∷ []) nothing)) (now (self .exit)) ⌝ }
+        ensures { λ r. ⌜ Grows r (Some (at (state (now (self .entry)) .done ++ seen (vec-items (now (self .entry) .text)) token ∷ []) nothing)) (now (self .exit)) ⌝ }
     {
         self.tokens.push(token)?;
         self.mode = Mode::Between;
@@ -155,7 +156,7 @@ impl Lexer {
     // A byte where nothing is begun.
     fn begin(&mut self, place: usize, byte: u8) -> Result<(), Fault>
         requires { ⌜ Sound (now self) ⌝ }
-        ensures { λ r. ⌜ Steps r (begins (state (now (self .entry)) .done) byte (class byte)) (now (self .exit)) ⌝ }
+        ensures { λ r. ⌜ Steps place byte r (begins (state (now (self .entry)) .done) byte (class byte)) (now (self .exit)) ⌝ }
     {
         match class_of(byte) {
             Class::Blank => self.mode = Mode::Between,
@@ -178,7 +179,7 @@ impl Lexer {
     fn in_word(&mut self, start: usize, place: usize, byte: u8) -> Result<(), Fault>
         requires sound { ⌜ Sound (now self) ⌝ }
         requires start { ⌜ start ≤ length (vec-items (now self .text)) ⌝ }
-        ensures { λ r. ⌜ Steps r (goes (state (now (self .entry)) .done) (inWord (drop start (vec-items (now (self .entry) .text)))) byte) (now (self .exit)) ⌝ }
+        ensures { λ r. ⌜ Steps place byte r (goes (state (now (self .entry)) .done) (inWord (drop start (vec-items (now (self .entry) .text)))) byte) (now (self .exit)) ⌝ }
     {
         if goes_on(byte) {
             return self.keep(byte, Mode::InWord(start));
@@ -191,7 +192,7 @@ impl Lexer {
     // A byte in or behind a number.
     fn in_number(&mut self, number: u32, place: usize, byte: u8) -> Result<(), Fault>
         requires sound { ⌜ Sound (now self) ⌝ }
-        ensures { λ r. ⌜ Steps r (goes (state (now (self .entry)) .done) (inNumber number) byte) (now (self .exit)) ⌝ }
+        ensures { λ r. ⌜ Steps place byte r (goes (state (now (self .entry)) .done) (inNumber number) byte) (now (self .exit)) ⌝ }
     {
         if !byte.is_ascii_digit() {
             self.emit(Token::Number(number))?;
@@ -209,7 +210,7 @@ impl Lexer {
     fn in_quote(&mut self, start: usize, byte: u8) -> Result<(), Fault>
         requires sound { ⌜ Sound (now self) ⌝ }
         requires start { ⌜ start ≤ length (vec-items (now self .text)) ⌝ }
-        ensures { λ r. ⌜ Steps r (goes (state (now (self .entry)) .done) (inQuote (drop start (vec-items (now (self .entry) .text)))) byte) (now (self .exit)) ⌝ }
+        ensures { λ r. ⌜ Grows r (goes (state (now (self .entry)) .done) (inQuote (drop start (vec-items (now (self .entry) .text)))) byte) (now (self .exit)) ⌝ }
     {
         match byte {
             b'"' => {
@@ -226,7 +227,7 @@ impl Lexer {
     fn in_escape(&mut self, start: usize, place: usize, byte: u8) -> Result<(), Fault>
         requires sound { ⌜ Sound (now self) ⌝ }
         requires start { ⌜ start ≤ length (vec-items (now self .text)) ⌝ }
-        ensures { λ r. ⌜ Steps r (goes (state (now (self .entry)) .done) (inEscape (drop start (vec-items (now (self .entry) .text)))) byte) (now (self .exit)) ⌝ }
+        ensures { λ r. ⌜ Steps place byte r (goes (state (now (self .entry)) .done) (inEscape (drop start (vec-items (now (self .entry) .text)))) byte) (now (self .exit)) ⌝ }
     {
         match byte {
             b'x' => self.mode = Mode::InHigh(start),
@@ -240,7 +241,7 @@ impl Lexer {
     fn in_high(&mut self, start: usize, place: usize, byte: u8) -> Result<(), Fault>
         requires sound { ⌜ Sound (now self) ⌝ }
         requires start { ⌜ start ≤ length (vec-items (now self .text)) ⌝ }
-        ensures { λ r. ⌜ Steps r (goes (state (now (self .entry)) .done) (inHigh (drop start (vec-items (now (self .entry) .text)))) byte) (now (self .exit)) ⌝ }
+        ensures { λ r. ⌜ Steps place byte r (goes (state (now (self .entry)) .done) (inHigh (drop start (vec-items (now (self .entry) .text)))) byte) (now (self .exit)) ⌝ }
     {
         let Some(high) = hex_value(byte) else {
             return Err(Fault::Escape { place, byte });
@@ -254,7 +255,7 @@ impl Lexer {
         requires sound { ⌜ Sound (now self) ⌝ }
         requires start { ⌜ start ≤ length (vec-items (now self .text)) ⌝ }
         requires bound { ⌜ high ≤ 15 ⌝ }
-        ensures { λ r. ⌜ Steps r (goes (state (now (self .entry)) .done) (inLow (drop start (vec-items (now (self .entry) .text))) high) byte) (now (self .exit)) ⌝ }
+        ensures { λ r. ⌜ Steps place byte r (goes (state (now (self .entry)) .done) (inLow (drop start (vec-items (now (self .entry) .text))) high) byte) (now (self .exit)) ⌝ }
     {
         let Some(low) = hex_value(byte) else {
             return Err(Fault::Escape { place, byte });
@@ -265,7 +266,7 @@ impl Lexer {
     // One byte more of the line, at its place.
     fn push(&mut self, place: usize, byte: u8) -> Result<(), Fault>
         requires { ⌜ Sound (now self) ⌝ }
-        ensures { λ r. ⌜ Steps r (step (state (now (self .entry))) byte) (now (self .exit)) ⌝ }
+        ensures { λ r. ⌜ Steps place byte r (step (state (now (self .entry))) byte) (now (self .exit)) ⌝ }
     {
         match self.mode {
             Mode::Between => self.begin(place, byte),
@@ -285,7 +286,7 @@ impl Lexer {
     // The tokens where the line ends.
     fn finish(mut self) -> Result<Tokens, Fault>
         requires { ⌜ Sound self ⌝ }
-        ensures { λ r. ⌜ Ends r (ended (state self .done) (state self .pending)) ⌝ }
+        ensures { λ r. ⌜ Finishes r (finish (state self)) ⌝ }
     {
         match self.mode {
             Mode::Between => {}
@@ -303,7 +304,8 @@ impl Lexer {
 
 // Cuts a line into its tokens.
 pub fn tokens_of(heap: Global, line: &[u8]) -> Result<Tokens, Fault>
-    ensures { λ r. ⌜ Ends r (lex (now (line .entry))) ⌝ }
+    ensures cases { λ r. ⌜ Ends r (lex (now (line .entry))) ⌝ }
+    ensures refused { λ r. ⌜ refused r (Faulty (now (line .entry))) ⌝ }
 {
     let mut lexer = Lexer {
         text: Vec::new(heap),
