@@ -1,20 +1,112 @@
 // Reads a script from standard input, and prints what comes of each line.
+use script::ArgumentsLine;
+use script::FaultDisplay;
+use script::FunctionLine;
 use script::Line;
 use script::ReadLine;
 use script::read_line;
 use session::Failure;
-use session::Label;
-use session::LabelDisplay;
-use session::Placed;
-use session::PlacedDisplay;
 use session::Session;
 use session::arguments_words;
 use session::function_words;
 use session::part;
+use session::placed_words;
 use std::error::AnyError;
+use std::io::BufRead;
 use std::io::BufReader;
 use terms::Refusal;
 
+// The refusal on standard output, and what it means on standard error.
+fn print_refusal(
+    rt: &LibcRuntime,
+    number: u64,
+    refusal: &Refusal,
+    words: &str,
+) -> Result<(), AnyError> {
+    let code = refusal.number();
+    let layer = refusal.layer().number();
+    let place = refusal.place;
+    println!(rt, "refused {code} layer {layer} place {place}")?;
+    eprintln!(rt, "line {number}: {words}")?;
+    Ok(())
+}
+
+// The refusal, or the end of the program for want of memory.
+fn refusal_of(failure: Failure) -> Result<Refusal, AnyError> {
+    match failure {
+        Failure::Refused(refusal) => Ok(refusal),
+        Failure::Memory => Err("not enough memory".into()),
+    }
+}
+
+fn add_function(
+    rt: &LibcRuntime,
+    session: &mut Session,
+    number: u64,
+    text: &[u8],
+    line: &FunctionLine,
+) -> Result<(), AnyError> {
+    match session.add_function(rt.alloc(), text, line) {
+        Ok(n) => {
+            println!(rt, "function {n}")?;
+            Ok(())
+        }
+        Err(failure) => {
+            let refusal = refusal_of(failure)?;
+            let words = function_words(rt.alloc(), &refusal, text, line)?;
+            print_refusal(rt, number, &refusal, words.as_str())
+        }
+    }
+}
+
+fn resolve(
+    rt: &LibcRuntime,
+    session: &Session,
+    number: u64,
+    text: &[u8],
+    line: &ArgumentsLine,
+) -> Result<(), AnyError> {
+    let heap = rt.alloc();
+    let name = part(text, line.name.span);
+    let params = match session.newest(name) {
+        Some(function) => function.param_names(heap)?,
+        None => Vec::new(heap),
+    };
+    match session.resolve(heap, text, line) {
+        Ok(resolved) => {
+            let placed = placed_words(heap, name, params.as_slice(), resolved.as_slice())?;
+            println!(rt, "arguments {placed}")?;
+            Ok(())
+        }
+        Err(failure) => {
+            let refusal = refusal_of(failure)?;
+            let words = arguments_words(heap, &refusal, text, line, params.as_slice())?;
+            print_refusal(rt, number, &refusal, words.as_str())
+        }
+    }
+}
+
+fn obey(rt: &LibcRuntime, session: &mut Session, number: u64, line: &[u8]) -> Result<(), AnyError> {
+    match read_line(rt.alloc(), line) {
+        Ok(ReadLine { text, line }) => match line {
+            Line::Blank => Ok(()),
+            Line::Function(f) => add_function(rt, session, number, text.as_slice(), &f),
+            Line::Arguments(a) => resolve(rt, session, number, text.as_slice(), &a),
+        },
+        Err(fault) => {
+            eprintln!(rt, "line {number}: {fault}")?;
+            Err("the line does not parse".into())
+        }
+    }
+}
+
 fn main(rt: LibcRuntime) -> Result<(), AnyError> {
+    let mut session = Session::new(rt.alloc());
+    let mut number: u64 = 0;
+    for line in BufReader::new(rt.stdin()).lines(rt.alloc()) {
+        let line = line?;
+        number = number.saturating_add(1);
+        obey(&rt, &mut session, number, line.as_bytes())?;
+    }
     Ok(())
 }

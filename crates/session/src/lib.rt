@@ -10,7 +10,6 @@ pub use function::Session;
 pub use steps::part;
 pub use words::Label;
 pub use words::LabelDisplay;
-pub use words::Placed;
-pub use words::PlacedDisplay;
 pub use words::arguments_words;
 pub use words::function_words;
+pub use words::placed_words;

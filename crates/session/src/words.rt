@@ -58,31 +58,44 @@ pub impl fmt::Display for Label<'_> as LabelDisplay {
     }
 }
 
-// A call's arguments by place, each under its parameter where there is one.
-#[derive(Clone, Copy)]
-pub struct Placed<'a> {
-    pub name: &'a [u8],
-    pub params: &'a [&'a [u8]],
-    pub args: &'a [Argument],
+// A label as text.
+fn shown(heap: Global, label: &[u8]) -> Result<String, AllocError> {
+    Label(label).to_string(heap)
 }
 
-pub impl fmt::Display for Placed<'_> as PlacedDisplay {
-    fn fmt<W: fmt::Write>(&self, f: &mut fmt::Formatter<W>) -> fmt::Result {
-        let name = Label(self.name);
-        write!(f, "{name}(")?;
-        for (k, arg) in self.args.iter().enumerate() {
-            if k > 0 {
-                write!(f, ", ")?;
-            }
-            if let Some(param) = self.params.get(k) {
-                let param = Label(param);
-                write!(f, "{param}: ")?;
-            }
-            let id = arg.id;
-            write!(f, "{id}")?;
+// Some labels as text, with commas between them.
+fn shown_all(heap: Global, labels: &[&[u8]]) -> Result<String, AllocError> {
+    let mut all = String::new(heap);
+    for (k, label) in labels.iter().enumerate() {
+        if k > 0 {
+            all.push_str(", ")?;
         }
-        write!(f, ")")
+        all.push_str(shown(heap, label)?.as_str())?;
     }
+    Ok(all)
+}
+
+// The arguments by place, each under its parameter where there is one.
+pub fn placed_words(
+    heap: Global,
+    name: &[u8],
+    params: &[&[u8]],
+    args: &[Argument],
+) -> Result<String, AllocError> {
+    let mut all = shown(heap, name)?;
+    all.push('(')?;
+    for (k, arg) in args.iter().enumerate() {
+        if k > 0 {
+            all.push_str(", ")?;
+        }
+        if let Some(param) = params.get(k) {
+            all.push_str(shown(heap, param)?.as_str())?;
+            all.push_str(": ")?;
+        }
+        all.push_str(arg.id.to_string(heap)?.as_str())?;
+    }
+    all.push(')')?;
+    Ok(all)
 }
 
 // A label of the line that is too long: the name, or else the first such parameter.
@@ -111,30 +124,19 @@ pub fn function_words(
     match refusal.reason {
         Reason::LabelTooLong => {
             let label = Label(too_long(text, line));
-            format!(heap, "{label} is too long a name: shorten it to {LONGEST_LABEL} bytes")
+            format!(
+                heap,
+                "{label} is too long a name: shorten it to {LONGEST_LABEL} bytes"
+            )
         }
         _ => {
             let count = line.params.len();
-            format!(heap, "{name} has {count} parameters: leave some out, {MOST_PARAMETERS} is the most")
+            format!(
+                heap,
+                "{name} has {count} parameters: leave some out, {MOST_PARAMETERS} is the most"
+            )
         }
     }
-}
-
-// A label as text.
-fn shown(heap: Global, label: &[u8]) -> Result<String, AllocError> {
-    Label(label).to_string(heap)
-}
-
-// Some labels as text, with commas between them.
-fn shown_all(heap: Global, labels: &[&[u8]]) -> Result<String, AllocError> {
-    let mut all = String::new(heap);
-    for (k, label) in labels.iter().enumerate() {
-        if k > 0 {
-            all.push_str(", ")?;
-        }
-        all.push_str(shown(heap, label)?.as_str())?;
-    }
-    Ok(all)
 }
 
 // The name that the argument at a place is written with; empty where it has none.
@@ -183,30 +185,51 @@ pub fn arguments_words(
     let name = shown(heap, written_name(text, line, place))?;
     match refusal.reason {
         Reason::UnknownFunction => {
-            format!(heap, "no function is called {function}: write its function line first, or correct the name")
+            format!(
+                heap,
+                "no function is called {function}: write its function line first, or correct the name"
+            )
         }
         Reason::PositionalAfterNamed => {
-            format!(heap, "argument {nth}, {id}, has no name and stands behind one that has: name it, or move it to the front")
+            format!(
+                heap,
+                "argument {nth}, {id}, has no name and stands behind one that has: name it, or move it to the front"
+            )
         }
         Reason::TooManyPositional => {
             let given = positional_in(line);
             let most = params.len();
-            format!(heap, "{given} arguments have no name and {function} has {most} parameters: leave some out")
+            format!(
+                heap,
+                "{given} arguments have no name and {function} has {most} parameters: leave some out"
+            )
         }
         Reason::UnknownParameter => {
             let names = shown_all(heap, params)?;
-            format!(heap, "argument {nth}, {id}, is for {name}, and {function} has no such parameter: it has {names}")
+            format!(
+                heap,
+                "argument {nth}, {id}, is for {name}, and {function} has no such parameter: it has {names}"
+            )
         }
         Reason::ParameterGivenTwice => {
-            format!(heap, "argument {nth}, {id}, is for {name}, which an argument before it has: give each parameter once")
+            format!(
+                heap,
+                "argument {nth}, {id}, is for {name}, which an argument before it has: give each parameter once"
+            )
         }
         Reason::MissingParameter => {
             let param = shown(heap, params.get(place).copied().unwrap_or(&[]))?;
-            format!(heap, "parameter {param} of {function} has no argument: give it one, or leave out what stands behind it")
+            format!(
+                heap,
+                "parameter {param} of {function} has no argument: give it one, or leave out what stands behind it"
+            )
         }
         _ => {
             let count = line.args.len();
-            format!(heap, "{count} arguments for {function} are too many: {MOST_ARGUMENTS} is the most")
+            format!(
+                heap,
+                "{count} arguments for {function} are too many: {MOST_ARGUMENTS} is the most"
+            )
         }
     }
 }

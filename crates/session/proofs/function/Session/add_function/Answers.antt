@@ -10,6 +10,6 @@ returns c = (
   sym (c .in-rest .ensures tt),
   c .len-number .ensures ∙ c .args .self .now .functions .ok .0 ∙ sym (length-map (vec-items (c .args .self .now .functions)) known),
   ap (map known) (c .in-Continue-push .ensures tt .items)
-  ∙ map-push known (vec-items (c .args .self .now .functions)) (c .in-Continue-function .function)
-  ∙ ap (λ (k : Known). functions (c .args .self .now) ++ k ∷ []) (c .in-Continue-function .ensures tt),
+      ∙ map-push known (vec-items (c .args .self .now .functions)) (c .in-Continue-function .function)
+      ∙ ap (λ (k : Known). functions (c .args .self .now) ++ k ∷ []) (c .in-Continue-function .ensures tt),
 )
