@@ -1,4 +1,5 @@
 // Reads a script from standard input, and prints what comes of each line.
+use printing::placed_text;
 use script::ArgumentsLine;
 use script::FaultDisplay;
 use script::FunctionLine;
@@ -7,14 +8,15 @@ use script::ReadLine;
 use script::read_line;
 use session::Failure;
 use session::Session;
-use session::arguments_words;
-use session::function_words;
 use session::part;
-use session::placed_words;
 use std::error::AnyError;
 use std::io::BufRead;
 use std::io::BufReader;
 use terms::Refusal;
+use words::arguments_words;
+use words::function_words;
+
+mod words;
 
 // The refusal on standard output, and what it means on standard error.
 fn print_refusal(
@@ -74,7 +76,7 @@ fn resolve(
     };
     match session.resolve(heap, text, line) {
         Ok(resolved) => {
-            let placed = placed_words(heap, name, params.as_slice(), resolved.as_slice())?;
+            let placed = placed_text(heap, name, params.as_slice(), resolved.as_slice())?;
             println!(rt, "arguments {placed}")?;
             Ok(())
         }

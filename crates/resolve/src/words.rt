@@ -1,101 +1,36 @@
-// What is printed: labels, arguments under their parameters, and what a refusal means.
-use crate::steps::part;
-use arguments::Argument;
+// What a refusal means, in words for whoever wrote the line.
 use arguments::ArgumentName;
+use printing::push_label;
+use printing::push_quoted;
 use script::ArgumentsLine;
 use script::FunctionLine;
 use script::Span;
+use session::part;
 use std::alloc::AllocError;
 use std::alloc::Global;
-use std::fmt;
 use terms::LONGEST_LABEL;
 use terms::MOST_ARGUMENTS;
 use terms::MOST_PARAMETERS;
 use terms::Reason;
 use terms::Refusal;
 
-// A label as a script writes it: a word, or in quotes.
-#[derive(Clone, Copy)]
-pub struct Label<'a>(pub &'a [u8]);
-
-fn is_word(label: &[u8]) -> bool {
-    let [first, ..] = label else {
-        return false;
-    };
-    if first.is_ascii_digit() {
-        return false;
-    }
-    for byte in label {
-        if !byte.is_ascii_alphanumeric() && *byte != b'_' {
-            return false;
-        }
-    }
-    true
-}
-
-fn write_quoted<W: fmt::Write>(label: &[u8], f: &mut fmt::Formatter<W>) -> fmt::Result {
-    write!(f, "\"")?;
-    for byte in label {
-        match *byte {
-            b'"' => write!(f, "\\\"")?,
-            b'\\' => write!(f, "\\\\")?,
-            b' '..=b'~' => write!(f, "{}", char::from(*byte))?,
-            _ => write!(f, "\\x{byte:02X}")?,
-        }
-    }
-    write!(f, "\"")
-}
-
-pub impl fmt::Display for Label<'_> as LabelDisplay {
-    fn fmt<W: fmt::Write>(&self, f: &mut fmt::Formatter<W>) -> fmt::Result {
-        if !is_word(self.0) {
-            return write_quoted(self.0, f);
-        }
-        for byte in self.0 {
-            write!(f, "{}", char::from(*byte))?;
-        }
-        Ok(())
-    }
-}
-
 // A label as text.
 fn shown(heap: Global, label: &[u8]) -> Result<String, AllocError> {
-    Label(label).to_string(heap)
+    let mut out = String::new(heap);
+    push_label(&mut out, label)?;
+    Ok(out)
 }
 
 // Some labels as text, with commas between them.
 fn shown_all(heap: Global, labels: &[&[u8]]) -> Result<String, AllocError> {
-    let mut all = String::new(heap);
+    let mut out = String::new(heap);
     for (k, label) in labels.iter().enumerate() {
         if k > 0 {
-            all.push_str(", ")?;
+            out.push_str(", ")?;
         }
-        all.push_str(shown(heap, label)?.as_str())?;
+        push_label(&mut out, label)?;
     }
-    Ok(all)
-}
-
-// The arguments by place, each under its parameter where there is one.
-pub fn placed_words(
-    heap: Global,
-    name: &[u8],
-    params: &[&[u8]],
-    args: &[Argument],
-) -> Result<String, AllocError> {
-    let mut all = shown(heap, name)?;
-    all.push('(')?;
-    for (k, arg) in args.iter().enumerate() {
-        if k > 0 {
-            all.push_str(", ")?;
-        }
-        if let Some(param) = params.get(k) {
-            all.push_str(shown(heap, param)?.as_str())?;
-            all.push_str(": ")?;
-        }
-        all.push_str(arg.id.to_string(heap)?.as_str())?;
-    }
-    all.push(')')?;
-    Ok(all)
+    Ok(out)
 }
 
 // A label of the line that is too long: the name, or else the first such parameter.
@@ -114,16 +49,16 @@ fn too_long<'a>(text: &'a [u8], line: &FunctionLine) -> &'a [u8] {
 }
 
 // What the refusal of a function means, and what to change.
-pub fn function_words(
+pub(crate) fn function_words(
     heap: Global,
     refusal: &Refusal,
     text: &[u8],
     line: &FunctionLine,
 ) -> Result<String, AllocError> {
-    let name = Label(part(text, line.name.span));
+    let name = shown(heap, part(text, line.name.span))?;
     match refusal.reason {
         Reason::LabelTooLong => {
-            let label = Label(too_long(text, line));
+            let label = shown(heap, too_long(text, line))?;
             format!(
                 heap,
                 "{label} is too long a name: shorten it to {LONGEST_LABEL} bytes"
@@ -139,18 +74,25 @@ pub fn function_words(
     }
 }
 
-// The name that the argument at a place is written with; empty where it has none.
-fn written_name<'a>(text: &'a [u8], line: &ArgumentsLine, place: usize) -> &'a [u8] {
-    match line.names.get(place) {
-        Some(Some(name)) => part(
-            text,
-            Span {
-                start: name.start,
-                len: name.len,
-            },
-        ),
-        _ => &[],
+// The name of the argument at a place, in quotes where it was written so; empty where it has none.
+fn shown_name(
+    heap: Global,
+    text: &[u8],
+    line: &ArgumentsLine,
+    place: usize,
+) -> Result<String, AllocError> {
+    let mut out = String::new(heap);
+    if let Some(Some(name)) = line.names.get(place) {
+        let start = name.start;
+        let len = name.len;
+        let label = part(text, Span { start, len });
+        if name.is_quoted {
+            push_quoted(&mut out, label)?;
+        } else {
+            push_label(&mut out, label)?;
+        }
     }
+    Ok(out)
 }
 
 fn id_at(line: &ArgumentsLine, place: usize) -> u32 {
@@ -171,7 +113,7 @@ fn positional_in(line: &ArgumentsLine) -> usize {
 }
 
 // What the refusal of a line of arguments means, and what to change. Arguments are counted from 1 here.
-pub fn arguments_words(
+pub(crate) fn arguments_words(
     heap: Global,
     refusal: &Refusal,
     text: &[u8],
@@ -182,7 +124,7 @@ pub fn arguments_words(
     let place = refusal.place;
     let nth = place.saturating_add(1);
     let id = id_at(line, place);
-    let name = shown(heap, written_name(text, line, place))?;
+    let name = shown_name(heap, text, line, place)?;
     match refusal.reason {
         Reason::UnknownFunction => {
             format!(
@@ -201,7 +143,7 @@ pub fn arguments_words(
             let most = params.len();
             format!(
                 heap,
-                "{given} arguments have no name and {function} has {most} parameters: leave some out"
+                "{given} arguments have no name, and {function} takes {most} at most beside a name: leave some out"
             )
         }
         Reason::UnknownParameter => {
