@@ -88,27 +88,40 @@ fn resolve(
     }
 }
 
-fn obey(rt: &LibcRuntime, session: &mut Session, number: u64, line: &[u8]) -> Result<(), AnyError> {
+// Does what a line says.
+fn obey(
+    rt: &LibcRuntime,
+    session: &mut Session,
+    number: u64,
+    line: &[u8],
+) -> Result<(), AnyError> {
     match read_line(rt.alloc(), line) {
         Ok(ReadLine { text, line }) => match line {
             Line::Blank => Ok(()),
             Line::Function(f) => add_function(rt, session, number, text.as_slice(), &f),
             Line::Arguments(a) => resolve(rt, session, number, text.as_slice(), &a),
         },
-        Err(fault) => {
-            eprintln!(rt, "line {number}: {fault}")?;
-            Err("the line does not parse".into())
-        }
+        Err(fault) => Err(format!(rt.alloc(), "line {number}: {fault}")?.into()),
     }
 }
 
-fn main(rt: LibcRuntime) -> Result<(), AnyError> {
+fn run(rt: &LibcRuntime) -> Result<(), AnyError> {
     let mut session = Session::new(rt.alloc());
     let mut number: u64 = 0;
     for line in BufReader::new(rt.stdin()).lines(rt.alloc()) {
-        let line = line?;
         number = number.saturating_add(1);
-        obey(&rt, &mut session, number, line.as_bytes())?;
+        match line {
+            Ok(line) => obey(rt, &mut session, number, line.as_bytes())?,
+            Err(error) => return Err(format!(rt.alloc(), "line {number}: {error}")?.into()),
+        }
     }
     Ok(())
+}
+
+fn main(rt: LibcRuntime) -> Result<(), AnyError> {
+    let done = run(&rt);
+    if let Err(error) = &done {
+        eprintln!(rt, "{error}")?;
+    }
+    done
 }
