@@ -17,6 +17,7 @@ use Rattle.std.specs.declared.option.Option.the-variants.{Some, None}
 use Rattle.std.specs.Results.{Cases}
 use Rattle.std.specs.declared.result.Result.{Result}
 use Rattle.std.specs.declared.result.Result.the-variants.{Ok, Err}
+use Rattle.terms.specs.Refusals.{refusal}
 use Rattle.terms.specs.Limits.{most-arguments}
 use Rattle.terms.specs.declared.Reason.the-variants.{TooManyPositional, UnknownParameter, ParameterGivenTwice, MissingParameter}
 use Rattle.terms.specs.declared.Refusal.{Refusal}
@@ -24,7 +25,7 @@ use Rattle.arguments.specs.declared.written.Argument.{Argument}
 use Rattle.arguments.specs.First.{when, first, first-below, count-below}
 use Rattle.arguments.specs.Names.{Name}
 use Rattle.arguments.specs.Gathering.{Assigned, giver-in, claimed, stands-at, empty-in, gathered}
-use Rattle.arguments.specs.Places.{Outcome, refusal, unless, blank, named, crowded, goes-to, place, giver, clash-of, clash, empty, standing, by-place, with-names}
+use Rattle.arguments.specs.Places.{Outcome, unless, blank, named, crowded, goes-to, place, giver, clash-of, clash, empty, standing, by-place, with-names}
 use Rattle.arguments.proofs.Firsts.{first-zero, first-more, first-hit, first-same, first-some, when-some}
 
 module _ (params : List (List ℕ)) (ns : List (Option Name)) where

@@ -13,6 +13,7 @@ use Rattle.std.specs.Options.{isSome, valueOr}
 use Rattle.std.specs.declared.option.Option.{Option}
 use Rattle.std.specs.declared.option.Option.the-variants.{Some, None}
 use Rattle.std.specs.declared.result.Result.the-variants.{Ok, Err}
+use Rattle.terms.specs.Refusals.{refusal}
 use Rattle.terms.specs.Limits.{most-arguments}
 use Rattle.terms.specs.declared.Reason.{Reason}
 use Rattle.terms.specs.declared.Reason.the-variants.{LabelTooLong, BadFunction, UnknownFunction, MalformedCall, PositionalAfterNamed, TooManyPositional, UnknownParameter, ParameterGivenTwice, MissingParameter}
@@ -21,7 +22,7 @@ use Rattle.arguments.specs.declared.written.Argument.{Argument}
 use Rattle.arguments.specs.declared.written.ArgumentName.{ArgumentName}
 use Rattle.arguments.specs.First.{when, first, first-below, any-below, count-below}
 use Rattle.arguments.specs.Names.{Name}
-use Rattle.arguments.specs.Places.{Outcome, refusal, unless, blank, named, outside, malformed, late, crowded, goes, goes-to, place, giver, clash-of, clash, empty, standing, by-place, with-names, settled, resolves}
+use Rattle.arguments.specs.Places.{Outcome, unless, blank, named, outside, malformed, late, crowded, goes, goes-to, place, giver, clash-of, clash, empty, standing, by-place, with-names, settled, resolves}
 use Rattle.arguments.specs.Standing.{Belongs, Place, Stands, Outside, Says, Exactly}
 use Rattle.arguments.specs.View.{spell}
 use Rattle.arguments.proofs.Firsts.{first-some, first-none, when-some, when-none, some-there, none-there, any-there, any-none, any-hit}

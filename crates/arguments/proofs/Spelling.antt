@@ -9,10 +9,11 @@ use Rattle.std.proofs.shelf.Lists.{length-map}
 use Rattle.std.specs.Options.{isSome, mapped}
 use Rattle.std.specs.declared.option.Option.{Option}
 use Rattle.std.specs.declared.option.Option.the-variants.{Some, None}
+use Rattle.terms.specs.Refusals.{refusal}
 use Rattle.terms.specs.declared.Reason.the-variants.{PositionalAfterNamed}
 use Rattle.arguments.specs.declared.written.ArgumentName.{ArgumentName}
 use Rattle.arguments.specs.First.{when, first, first-below, any-below, count-below}
-use Rattle.arguments.specs.Places.{named, late, refusal, goes, place}
+use Rattle.arguments.specs.Places.{named, late, goes, place}
 use Rattle.arguments.specs.View.{spell, spelled}
 use Rattle.arguments.proofs.Firsts.{first-same, count-same}
 

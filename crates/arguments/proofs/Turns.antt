@@ -16,11 +16,12 @@ use Rattle.std.specs.Text.{lower}
 use Rattle.std.specs.shelf.Text.{sameBytes}
 use Rattle.std.specs.declared.option.Option.{Option}
 use Rattle.std.specs.declared.option.Option.the-variants.{Some, None}
+use Rattle.terms.specs.Refusals.{refusal}
 use Rattle.terms.specs.declared.Reason.the-variants.{PositionalAfterNamed}
 use Rattle.terms.specs.declared.Refusal.{Refusal}
 use Rattle.arguments.specs.First.{when, first, first-below, any-below, count-below}
 use Rattle.arguments.specs.Names.{Name, matches, first-match}
-use Rattle.arguments.specs.Places.{named, late, refusal}
+use Rattle.arguments.specs.Places.{named, late}
 use Rattle.arguments.specs.View.{bytesOf}
 use Rattle.arguments.proofs.Firsts.{first-more, first-hit, any-more, below-more, below-hit, count-more}
 

@@ -8,6 +8,7 @@ use lib.ListN.{length}
 use Rattle.std.specs.declared.option.Option.{Option}
 use Rattle.std.specs.declared.option.Option.the-variants.{Some, None}
 use Rattle.std.specs.declared.result.Result.the-variants.{Ok, Err}
+use Rattle.terms.specs.Refusals.{refusal}
 use Rattle.terms.specs.declared.Reason.the-variants.{TooManyPositional}
 use Rattle.terms.specs.declared.Refusal.{Refusal}
 use Rattle.arguments.specs.declared.written.Argument.{Argument}
@@ -15,7 +16,7 @@ use Rattle.arguments.specs.declared.written.ArgumentName.{ArgumentName}
 use Rattle.arguments.specs.First.{first, any-below, count-below}
 use Rattle.arguments.specs.Orders.{Reordered, Alike}
 use Rattle.arguments.specs.Gathering.{Assigned, gathered}
-use Rattle.arguments.specs.Places.{Outcome, refusal, malformed, named, late, clash, with-names, resolves}
+use Rattle.arguments.specs.Places.{Outcome, malformed, named, late, clash, with-names, resolves}
 use Rattle.arguments.specs.Resolution.{Resolution}
 use Rattle.arguments.specs.Standing.{Exactly}
 use Rattle.arguments.specs.View.{spell}

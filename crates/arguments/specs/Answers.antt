@@ -1,8 +1,6 @@
 -- What the code's answers stand for. Assumes nothing.
 use mathlib.Core.List.{List}
 use lib.ListN.{take}
-use Rattle.std.specs.declared.option.Option.{Option}
-use Rattle.std.specs.declared.option.Option.the-variants.{Some, None}
 use Rattle.std.specs.declared.result.Result.{Result}
 use Rattle.std.specs.declared.result.Result.the-variants.{Ok, Err}
 use Rattle.terms.specs.declared.Refusal.{Refusal}
@@ -14,11 +12,7 @@ use Rattle.arguments.specs.Places.{Outcome}
 abbrev pub listed : Resolved → List Argument
 listed r = take (r .count) (r .items)
 
+-- the answer by place, or the refusal
 abbrev pub outcome : Result Resolved Refusal → Outcome
 outcome (Ok r) = Ok (listed r)
 outcome (Err e) = Err e
-
--- the refusal, where there is one
-abbrev pub refusalOf : {T : Type 0} → Result T Refusal → Option Refusal
-refusalOf (Ok x) = None
-refusalOf (Err e) = Some e

@@ -11,13 +11,14 @@ use Rattle.std.specs.declared.option.Option.{Option}
 use Rattle.std.specs.declared.option.Option.the-variants.{Some, None}
 use Rattle.std.specs.declared.result.Result.{Result}
 use Rattle.std.specs.declared.result.Result.the-variants.{Ok, Err}
+use Rattle.terms.specs.Refusals.{refusal}
 use Rattle.terms.specs.Limits.{most-arguments}
 use Rattle.terms.specs.declared.Reason.the-variants.{UnknownParameter, ParameterGivenTwice, MissingParameter}
 use Rattle.terms.specs.declared.Refusal.{Refusal}
 use Rattle.arguments.specs.declared.written.Argument.{Argument}
 use Rattle.arguments.specs.First.{first, first-below, when}
 use Rattle.arguments.specs.Names.{Name}
-use Rattle.arguments.specs.Places.{Outcome, refusal, unless, blank, place}
+use Rattle.arguments.specs.Places.{Outcome, unless, blank, place}
 
 -- ps has the place of each of the first n arguments
 pub record Assigned (params : List (List ℕ)) (names : List (Option Name)) (n : ℕ) (ps : List ℕ) : Type 0 where

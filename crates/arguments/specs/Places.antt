@@ -11,6 +11,7 @@ use Rattle.std.specs.declared.option.Option.{Option}
 use Rattle.std.specs.declared.option.Option.the-variants.{Some, None}
 use Rattle.std.specs.declared.result.Result.{Result}
 use Rattle.std.specs.declared.result.Result.the-variants.{Ok, Err}
+use Rattle.terms.specs.Refusals.{refusal}
 use Rattle.terms.specs.Limits.{most-arguments}
 use Rattle.terms.specs.declared.Reason.{Reason}
 use Rattle.terms.specs.declared.Reason.the-variants.{MalformedCall, PositionalAfterNamed, TooManyPositional, UnknownParameter, ParameterGivenTwice, MissingParameter}
@@ -24,9 +25,6 @@ use Rattle.arguments.specs.View.{spell}
 -- the answer of a call, or its refusal
 abbrev pub Outcome : Type 0
 Outcome = Result (List Argument) Refusal
-
-abbrev pub refusal : Reason → ℕ → Refusal
-refusal r k = record { reason = r; place = k }
 
 -- what stands where nothing was written
 abbrev pub blank : Argument
@@ -46,7 +44,7 @@ abbrev pub outside : List ℕ → Option ArgumentName → Bool
 outside text None = false
 outside text (Some n) = ltb (length text) (n .start + n .len)
 
--- 21: too many arguments, as many names as arguments, or a name outside its text
+-- 21: too many arguments, more or fewer names than arguments, or a name outside its text
 abbrev pub malformed : List ℕ → List Argument → List (Option ArgumentName) → Option Refusal
 malformed text args names = when
     (ltb most-arguments (length args) || (not (eqb (length args) (length names)) || any-below (λ i. outside text (getD names i None)) (length names)))
@@ -84,6 +82,7 @@ module _ (params : List (List ℕ)) (names : List (Option Name)) where
   clash-of i None = Some (refusal UnknownParameter i)
   clash-of i (Some k) = when (isSome (giver i k)) (refusal ParameterGivenTwice i)
 
+  -- what the argument at i clashes by, if it does
   abbrev pub clash : ℕ → Option Refusal
   clash i = clash-of i (place i)
 

@@ -7,18 +7,21 @@ use lib.Chars.{codes}
 use Rattle.std.specs.declared.option.Option.{Option}
 use Rattle.std.specs.declared.option.Option.the-variants.{Some, None}
 use Rattle.std.specs.declared.result.Result.the-variants.{Ok, Err}
+use Rattle.terms.specs.Refusals.{refusal}
 use Rattle.terms.specs.declared.Reason.the-variants.{PositionalAfterNamed, ParameterGivenTwice, MissingParameter}
 use Rattle.arguments.specs.declared.written.Argument.{Argument}
 use Rattle.arguments.specs.declared.written.ArgumentName.{ArgumentName}
-use Rattle.arguments.specs.Places.{Outcome, refusal, resolves}
+use Rattle.arguments.specs.Places.{Outcome, resolves}
 
--- the text that the names of the cases stand in, and the names
+-- the text that the names of the cases stand in
 abbrev pub text : List ℕ
 text = codes "abcA"
 
+-- the name at a place of it
 abbrev pub name : ℕ → Bool → Option ArgumentName
 name k quoted = Some (record { start = k; len = 1; «is_quoted» = quoted })
 
+-- the names of the cases, by their letter
 abbrev pub a : Option ArgumentName
 a = name 0 false
 
@@ -31,9 +34,11 @@ c = name 2 false
 abbrev pub A : Option ArgumentName
 A = name 3 false
 
+-- the same letter in quotes
 abbrev pub quoted-A : Option ArgumentName
 quoted-A = name 3 true
 
+-- no name
 abbrev pub positional : Option ArgumentName
 positional = None
 
@@ -41,6 +46,7 @@ positional = None
 abbrev pub ids : List ℕ → List Argument
 ids xs = map (λ (x : ℕ). record { id = x; «type_number» = 0 }) xs
 
+-- the parameters of the cases
 abbrev pub abc : List (List ℕ)
 abc = codes "a" ∷ codes "b" ∷ codes "c" ∷ []
 
@@ -54,9 +60,11 @@ pub record Row : Type 0 where
   pub names : List (Option ArgumentName)
   pub outcome : Outcome
 
+-- a row
 abbrev pub row : List (List ℕ) → List ℕ → List (Option ArgumentName) → Outcome → Row
 row ps xs ns o = record { params = ps; args = xs; names = ns; outcome = o }
 
+-- the worked cases
 abbrev pub table : List Row
 table =
     row abc (10 ∷ 30 ∷ 20 ∷ []) (positional ∷ c ∷ b ∷ []) (Ok (ids (10 ∷ 20 ∷ 30 ∷ [])))

@@ -6,8 +6,9 @@ ghost use lib.ListN.{length, getD};
 ghost use Rattle.std.specs.Vec.{made};
 ghost use Rattle.std.specs.shelf.Lists.{All};
 ghost use Rattle.std.specs.declared.option.Option.the-variants.{None};
+ghost use Rattle.terms.specs.Refusals.{refusalOf};
 ghost use Rattle.terms.specs.Limits.{most-arguments};
-ghost use Rattle.arguments.specs.Answers.{outcome, refusalOf};
+ghost use Rattle.arguments.specs.Answers.{outcome};
 ghost use Rattle.arguments.specs.First.{first, any-below, count-below};
 ghost use Rattle.arguments.specs.Gathering.{Assigned};
 ghost use Rattle.arguments.specs.Places.{named, outside, malformed, late, clash, with-names};
@@ -29,6 +30,7 @@ pub use resolved::Resolved;
 pub use written::Argument;
 pub use written::ArgumentName;
 
+// Whether a name reaches past its text.
 fn is_outside(arg_name: &Option<ArgumentName>, text: &[u8]) -> bool
     ensures { λ r. ⌜ r ≡ outside (now (text .entry)) (now («arg_name» .entry)) ⌝ }
 {
@@ -38,6 +40,7 @@ fn is_outside(arg_name: &Option<ArgumentName>, text: &[u8]) -> bool
     }
 }
 
+// Whether one of the names does.
 fn has_name_outside(arg_names: &[Option<ArgumentName>], text: &[u8]) -> bool
     ensures { λ r. ⌜ r ≡ any-below (λ i. outside (now (text .entry)) (getD (now («arg_names» .entry)) i None)) (length (now («arg_names» .entry))) ⌝ }
 {
@@ -49,6 +52,7 @@ fn has_name_outside(arg_names: &[Option<ArgumentName>], text: &[u8]) -> bool
     false
 }
 
+// Whether an argument has a name.
 fn has_name(arg_names: &[Option<ArgumentName>]) -> bool
     ensures { λ r. ⌜ r ≡ any-below (named (now («arg_names» .entry))) (length (now («arg_names» .entry))) ⌝ }
 {
@@ -98,6 +102,7 @@ fn validate_argument_order(arg_names: &[Option<ArgumentName>]) -> Result<(), Ref
     Ok(())
 }
 
+// How many arguments have no name.
 fn positional_count(arg_names: &[Option<ArgumentName>]) -> usize
     ensures { λ r. ⌜ r ≡ count-below (λ i. not (named (now («arg_names» .entry)) i)) (length (now («arg_names» .entry))) ⌝ }
 {

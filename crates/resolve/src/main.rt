@@ -89,12 +89,7 @@ fn resolve(
 }
 
 // Does what a line says.
-fn obey(
-    rt: &LibcRuntime,
-    session: &mut Session,
-    number: u64,
-    line: &[u8],
-) -> Result<(), AnyError> {
+fn obey(rt: &LibcRuntime, session: &mut Session, number: u64, line: &[u8]) -> Result<(), AnyError> {
     match read_line(rt.alloc(), line) {
         Ok(ReadLine { text, line }) => match line {
             Line::Blank => Ok(()),

@@ -15,10 +15,10 @@ use Rattle.std.proofs.shelf.Ways.{same-from-decides}
 use Rattle.std.specs.Orderings.{Decides}
 use Rattle.std.specs.Of.Vec.{vec-items}
 use Rattle.std.specs.shelf.Text.{sameBytes}
+use Rattle.terms.specs.Refusals.{refusal}
 use Rattle.terms.specs.Limits.{most-parameters}
 use Rattle.terms.specs.declared.Reason.the-variants.{BadFunction}
 use Rattle.arguments.specs.First.{when}
-use Rattle.arguments.specs.Places.{refusal}
 use Rattle.arguments.specs.View.{bytesOf}
 use Rattle.script.specs.declared.items.Text.{Text}
 use Rattle.script.specs.declared.lines.FunctionLine.{FunctionLine}

@@ -12,6 +12,7 @@ use Rattle.std.specs.declared.option.Option.the-variants.{Some, None}
 use Rattle.std.specs.declared.result.Result.{Result}
 use Rattle.std.specs.declared.result.Result.the-variants.{Ok, Err}
 use Rattle.std.specs.shelf.Text.{sameBytes}
+use Rattle.terms.specs.Refusals.{refusal}
 use Rattle.terms.specs.Limits.{longest-label, most-parameters}
 use Rattle.terms.specs.declared.Reason.the-variants.{LabelTooLong, BadFunction, UnknownFunction}
 use Rattle.terms.specs.declared.Refusal.{Refusal}
@@ -20,7 +21,7 @@ use Rattle.arguments.specs.declared.written.Argument.{Argument}
 use Rattle.arguments.specs.declared.written.ArgumentName.{ArgumentName}
 use Rattle.arguments.specs.Answers.{listed}
 use Rattle.arguments.specs.First.{or-else, when}
-use Rattle.arguments.specs.Places.{Outcome, refusal}
+use Rattle.arguments.specs.Places.{Outcome}
 use Rattle.arguments.specs.Resolution.{Resolution}
 use Rattle.script.specs.declared.items.Text.{Text}
 use Rattle.script.specs.declared.lines.ArgumentsLine.{ArgumentsLine}
@@ -36,6 +37,7 @@ pub record Known : Type 0 where
   pub name : List ℕ
   pub params : List (List ℕ)
 
+-- the bytes of a word or a quoted text
 abbrev pub textBytes : List ℕ → Text → List ℕ
 textBytes text t = bytes text (t .span)
 
@@ -43,9 +45,11 @@ textBytes text t = bytes text (t .span)
 abbrev pub writes : List ℕ → FunctionLine → Known
 writes text f = record { name = textBytes text (f .name); params = map (textBytes text) (vec-items (f .params)) }
 
+-- the function that was taken
 abbrev pub known : Function → Known
 known f = writes (vec-items (f .text)) (f .line)
 
+-- the functions of a session, in their order
 abbrev pub functions : Session → List Known
 functions s = map known (vec-items (s .functions))
 
@@ -53,6 +57,7 @@ functions s = map known (vec-items (s .functions))
 abbrev pub long : List ℕ → Bool
 long label = ltb longest-label (length label)
 
+-- one of the labels has too many bytes
 unfoldable pub any-long : List (List ℕ) → Bool
 any-long [] = false
 any-long (l ∷ ls) = long l || any-long ls
@@ -76,6 +81,7 @@ newest name (f ∷ fs) = or-else (newest name fs) (when (sameBytes (f .name) nam
 abbrev pub Comes : List Known → List ℕ → ArgumentsLine → Outcome → Type 0
 Comes fs text a o = Cases (newest (textBytes text (a .name)) fs) (o ≡ Err (refusal UnknownFunction 0)) (λ f. Resolution (f .params) text (vec-items (a .args)) (vec-items (a .names)) o)
 
+-- the arguments by place, or the refusal, unless memory fails
 abbrev pub Settles : List Known → List ℕ → ArgumentsLine → Result Resolved Failure → Type 0
 Settles fs text a (Ok r) = Comes fs text a (Ok (listed r))
 Settles fs text a (Err (Refused e)) = Comes fs text a (Err e)

@@ -1,13 +1,10 @@
 // Adding a function, and putting arguments under the parameters of one.
 ghost use mathlib.Core.Path.{_≡_};
-ghost use mathlib.Core.Bool.{_||_};
 ghost use mathlib.Core.List.{[], map};
-ghost use lib.ListN.{length};
 ghost use Rattle.std.specs.Of.Vec.{vec-items};
 ghost use Rattle.std.specs.Options.{mapped};
 ghost use Rattle.std.specs.Vec.{made};
 ghost use Rattle.std.specs.shelf.Text.{sameBytes};
-ghost use Rattle.std.specs.shelf.Maps.{nth};
 ghost use Rattle.arguments.specs.View.{bytesOf};
 ghost use Rattle.script.specs.Seen.{bytes};
 ghost use Rattle.session.specs.Known.{known, functions, textBytes, writes, long, any-long, unfit, Adds, newest, Settles};
@@ -39,12 +36,14 @@ pub fn part(text: &[u8], span: Span) -> &[u8]
     part
 }
 
+// Whether a label has too many bytes.
 fn is_long(text: &[u8], label: &Text) -> bool
     ensures { λ r. ⌜ r ≡ long (textBytes (now (text .entry)) (now (label .entry))) ⌝ }
 {
     part(text, label.span).len() > LONGEST_LABEL
 }
 
+// Whether one of the labels has.
 fn has_long(text: &[u8], labels: &[Text]) -> bool
     ensures { λ r. ⌜ r ≡ any-long (map (textBytes (now (text .entry))) (now (labels .entry))) ⌝ }
 {
@@ -87,6 +86,7 @@ fn copied(heap: Global, text: &[u8], line: &FunctionLine) -> Result<Function, Al
 }
 
 impl Function {
+    // Whether its name has exactly these bytes.
     pub fn is_named(&self, name: &[u8]) -> bool
         ensures { λ r. ⌜ r ≡ sameBytes (known (now (self .entry)) .name) (now (name .entry)) ⌝ }
     {
@@ -106,6 +106,7 @@ impl Function {
 }
 
 impl Session {
+    // No function yet.
     pub fn new(heap: Global) -> Session
         ensures { λ r. ⌜ functions r ≡ [] ⌝ }
     {

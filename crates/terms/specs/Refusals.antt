@@ -1,7 +1,12 @@
 -- The number and the layer of every refusal. Assumes nothing.
 use Prim.Native.Nat.{ℕ}
+use Rattle.std.specs.declared.option.Option.{Option}
+use Rattle.std.specs.declared.option.Option.the-variants.{Some, None}
+use Rattle.std.specs.declared.result.Result.{Result}
+use Rattle.std.specs.declared.result.Result.the-variants.{Ok, Err}
 use Rattle.terms.specs.declared.Reason.{Reason}
 use Rattle.terms.specs.declared.Reason.the-variants.{LabelTooLong, BadFunction, UnknownFunction, MalformedCall, PositionalAfterNamed, TooManyPositional, UnknownParameter, ParameterGivenTwice, MissingParameter}
+use Rattle.terms.specs.declared.Refusal.{Refusal}
 use Rattle.terms.specs.declared.Layer.{Layer}
 use Rattle.terms.specs.declared.Layer.the-variants.{Reading, Names}
 
@@ -33,3 +38,12 @@ layer MissingParameter = Names
 abbrev pub layerNumber : Layer → ℕ
 layerNumber Reading = 1
 layerNumber Names = 2
+
+-- the refusal of a reason at a place
+abbrev pub refusal : Reason → ℕ → Refusal
+refusal r k = record { reason = r; place = k }
+
+-- the refusal, where there is one
+abbrev pub refusalOf : {T : Type 0} → Result T Refusal → Option Refusal
+refusalOf (Ok x) = None
+refusalOf (Err e) = Some e

@@ -1,10 +1,10 @@
 use mathlib.Core.Path.{_≡_, sym, ap, _∙_}
 use mathlib.Core.Bool.{Bool}
 use Rattle.std.proofs.shelf.Tests.{lt-ltb, le-ltb}
+use Rattle.terms.specs.Refusals.{refusal}
 use Rattle.terms.specs.Limits.{most-parameters}
 use Rattle.terms.specs.declared.Reason.the-variants.{BadFunction}
 use Rattle.arguments.specs.First.{when}
-use Rattle.arguments.specs.Places.{refusal}
 use Rattle.session.proofs.Parts.{unfit-is}
 use Rattle.session.proofs.steps.unfit_for.Needs as need
 
