@@ -17,6 +17,7 @@ use Rattle.arguments.specs.declared.written.Argument.{Argument}
 abbrev pub wordByte : ℕ → Bool
 wordByte b = asciiAlnum b || eqb b 95
 
+-- every byte is one of a word
 unfoldable pub wordBytes : List ℕ → Bool
 wordBytes [] = true
 wordBytes (b ∷ bs) = wordByte b && wordBytes bs
@@ -34,13 +35,17 @@ isWord label = begun label && wordBytes label
 abbrev pub hexDigit : ℕ → ℕ
 hexDigit v = cond (ltb v 10) (48 + v) (cond (ltb v 16) (65 + (v - 10)) 63)
 
+-- a byte by its number, behind a `\x`
+abbrev pub hexed : ℕ → List ℕ
+hexed b = 92 ∷ 120 ∷ hexDigit (b / 16) ∷ hexDigit (b % 16) ∷ []
+
 -- a byte in quotes: `"` and `\` behind a `\`, a byte outside 20 to 7E by its two hexadecimal digits
 abbrev pub escaped : ℕ → List ℕ
 escaped b =
     cond (eqb b 34) (92 ∷ 34 ∷ [])
     (cond (eqb b 92) (92 ∷ 92 ∷ [])
     (cond (within 32 126 b) (b ∷ [])
-    (92 ∷ 120 ∷ hexDigit (b / 16) ∷ hexDigit (b % 16) ∷ [])))
+    (hexed b)))
 
 -- a label in quotes
 abbrev pub quotedText : List ℕ → List ℕ
@@ -59,6 +64,7 @@ under (Some p) = labelText p ++ codes ": "
 abbrev pub piece : List (List ℕ) → ℕ → Argument → List ℕ
 piece params k a = cond (ltb 0 k) (codes ", ") [] ++ (under (nth params k) ++ decimal (a .id))
 
+-- the arguments from place k on
 unfoldable pub pieces : List (List ℕ) → ℕ → List Argument → List ℕ
 pieces params k [] = []
 pieces params k (a ∷ more) = piece params k a ++ pieces params (k + 1) more

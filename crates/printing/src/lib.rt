@@ -1,40 +1,70 @@
 // Labels and arguments as they are printed.
 ghost use mathlib.Core.Path.{_≡_};
-ghost use mathlib.Core.List.{_++_};
+ghost use mathlib.Core.Bool.{true, cond};
+ghost use mathlib.Core.List.{[], _∷_, _++_};
+ghost use Prim.Native.Nat.{_<_};
+ghost use lib.Chars.{codes};
+ghost use lib.Dec.{ltb};
 ghost use Rattle.std.specs.Of.String.{string-bytes};
 ghost use Rattle.std.specs.Vec.{made};
-ghost use Rattle.printing.specs.Printing.{isWord, hexDigit, escaped, quotedText, labelText, piece, placedText};
+ghost use Rattle.std.specs.shelf.Maps.{nth};
+ghost use Rattle.printing.specs.Printing.{wordByte, wordBytes, isWord, hexDigit, hexed, escaped, quotedText, labelText, under, piece, placedText};
 ghost use Rattle.arguments.specs.View.{bytesOf};
 use arguments::Argument;
 use std::alloc::AllocError;
 use std::alloc::Global;
 
-// Whether a label can stand without quotes: letters, digits and `_`, and no digit first.
-fn is_word(label: &[u8]) -> bool
-    ensures { λ r. ⌜ r ≡ isWord (now (label .entry)) ⌝ }
+fn is_word_byte(byte: u8) -> bool
+    ensures { λ r. ⌜ r ≡ wordByte byte ⌝ }
 {
-    let [first, ..] = label else {
-        return false;
-    };
-    if first.is_ascii_digit() {
-        return false;
-    }
+    byte.is_ascii_alphanumeric() | (byte == b'_')
+}
+
+fn has_word_bytes(label: &[u8]) -> bool
+    ensures { λ r. ⌜ r ≡ wordBytes (now (label .entry)) ⌝ }
+{
     for byte in label {
-        if !(byte.is_ascii_alphanumeric() | (*byte == b'_')) {
+        if !is_word_byte(*byte) {
             return false;
         }
     }
     true
 }
 
-fn hex_digit(value: u8) -> char
+// Whether a label can stand without quotes: letters, digits and `_`, and no digit first.
+fn is_word(label: &[u8]) -> bool
+    ensures { λ r. ⌜ r ≡ isWord (now (label .entry)) ⌝ }
+{
+    match label {
+        [first, ..] => !first.is_ascii_digit() & has_word_bytes(label),
+        [] => false,
+    }
+}
+
+// One byte of ASCII.
+fn push_ascii(out: &mut String, byte: u8) -> Result<(), AllocError>
+    ensures { λ r. ⌜ made r (λ _. byte < 128 → string-bytes (now (out .exit)) ≡ string-bytes (now (out .entry)) ++ byte ∷ []) ⌝ }
+{
+    out.push(char::from(byte))
+}
+
+fn hex_digit(value: u8) -> u8
     ensures { λ r. ⌜ r ≡ hexDigit value ⌝ }
 {
     match value {
-        0..10 => char::from(b'0' + value),
-        10..16 => char::from(b'A' + (value - 10)),
-        _ => '?',
+        0..10 => b'0' + value,
+        10..16 => b'A' + (value - 10),
+        _ => b'?',
     }
+}
+
+// One byte by its number.
+fn push_hex(out: &mut String, byte: u8) -> Result<(), AllocError>
+    ensures { λ r. ⌜ made r (λ _. string-bytes (now (out .exit)) ≡ string-bytes (now (out .entry)) ++ hexed byte) ⌝ }
+{
+    out.push_str("\\x")?;
+    push_ascii(out, hex_digit(byte / 16))?;
+    push_ascii(out, hex_digit(byte % 16))
 }
 
 // One byte in quotes.
@@ -44,12 +74,8 @@ fn push_escaped(out: &mut String, byte: u8) -> Result<(), AllocError>
     match byte {
         b'"' => out.push_str("\\\""),
         b'\\' => out.push_str("\\\\"),
-        b' '..=b'~' => out.push(char::from(byte)),
-        _ => {
-            out.push_str("\\x")?;
-            out.push(hex_digit(byte / 16))?;
-            out.push(hex_digit(byte % 16))
-        }
+        b' '..=b'~' => push_ascii(out, byte),
+        _ => push_hex(out, byte),
     }
 }
 
@@ -57,22 +83,48 @@ fn push_escaped(out: &mut String, byte: u8) -> Result<(), AllocError>
 pub fn push_quoted(out: &mut String, label: &[u8]) -> Result<(), AllocError>
     ensures { λ r. ⌜ made r (λ _. string-bytes (now (out .exit)) ≡ string-bytes (now (out .entry)) ++ quotedText (now (label .entry))) ⌝ }
 {
-    out.push('"')?;
+    push_ascii(out, b'"')?;
     for byte in label {
         push_escaped(out, *byte)?;
     }
-    out.push('"')
+    push_ascii(out, b'"')
+}
+
+// A word as it is.
+fn push_word(out: &mut String, label: &[u8]) -> Result<(), AllocError>
+    ensures { λ r. ⌜ made r (λ _. wordBytes (now (label .entry)) ≡ true → string-bytes (now (out .exit)) ≡ string-bytes (now (out .entry)) ++ now (label .entry)) ⌝ }
+{
+    for byte in label {
+        push_ascii(out, *byte)?;
+    }
+    Ok(())
 }
 
 // A label as a script writes it: a word, or in quotes.
 pub fn push_label(out: &mut String, label: &[u8]) -> Result<(), AllocError>
     ensures { λ r. ⌜ made r (λ _. string-bytes (now (out .exit)) ≡ string-bytes (now (out .entry)) ++ labelText (now (label .entry))) ⌝ }
 {
-    if !is_word(label) {
-        return push_quoted(out, label);
+    if is_word(label) {
+        push_word(out, label)
+    } else {
+        push_quoted(out, label)
     }
-    for byte in label {
-        out.push(char::from(*byte))?;
+}
+
+// A comma behind what is not the first.
+fn push_comma(out: &mut String, k: usize) -> Result<(), AllocError>
+    ensures { λ r. ⌜ made r (λ _. string-bytes (now (out .exit)) ≡ string-bytes (now (out .entry)) ++ cond (ltb 0 k) (codes ", ") []) ⌝ }
+{
+    out.push_str(if k > 0 { ", " } else { "" })
+}
+
+// The parameter at place `k`, where there is one.
+fn push_under(out: &mut String, params: &[&[u8]], k: usize) -> Result<(), AllocError>
+    ensures { λ r. ⌜ made r (λ _. string-bytes (now (out .exit)) ≡ string-bytes (now (out .entry)) ++ under (nth (bytesOf (now (params .entry))) k)) ⌝ }
+{
+    if k < params.len() {
+        push_label(out, params[k])?;
+        out.push_str(": ")?;
     }
     Ok(())
 }
@@ -87,13 +139,8 @@ fn push_argument(
 ) -> Result<(), AllocError>
     ensures { λ r. ⌜ made r (λ _. string-bytes (now (out .exit)) ≡ string-bytes (now (out .entry)) ++ piece (bytesOf (now (params .entry))) k (now (arg .entry))) ⌝ }
 {
-    if k > 0 {
-        out.push_str(", ")?;
-    }
-    if let Some(param) = params.get(k) {
-        push_label(out, param)?;
-        out.push_str(": ")?;
-    }
+    push_comma(out, k)?;
+    push_under(out, params, k)?;
     let id = arg.id.to_string(heap)?;
     out.push_str(id.as_str())
 }
@@ -109,10 +156,10 @@ pub fn placed_text(
 {
     let mut out = String::new(heap);
     push_label(&mut out, name)?;
-    out.push('(')?;
+    push_ascii(&mut out, b'(')?;
     for (k, arg) in args.iter().enumerate() {
         push_argument(heap, &mut out, params, k, arg)?;
     }
-    out.push(')')?;
+    push_ascii(&mut out, b')')?;
     Ok(out)
 }

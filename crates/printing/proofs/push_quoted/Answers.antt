@@ -1,0 +1,14 @@
+use native.Mathlib.Omega.{arith}
+use Rattle.std.proofs.shelf.Results.{made-weaker}
+use Rattle.std.specs.Of.String.{string-bytes}
+use Rattle.printing.proofs.Texts.{quoted-more, quoted-end}
+use Rattle.printing.proofs.push_quoted.Needs as need
+
+pub loop-byte-again : need.loop-byte-again
+loop-byte-again c = quoted-more (c .args .label .now) (c .loop-byte .byte-index) (string-bytes (c .loop-byte .out)) _ _ (c .loop-byte-test .taken) (c .in-Continue-push-escaped .ensures tt) (c .loop-byte .inv)
+
+pub returns : need.returns
+returns c =
+    made-weaker (c .push-ascii-2 .result) _ _
+    (λ _ e. quoted-end (c .args .label .now) (c .loop-byte .byte-index) (string-bytes (c .args .out .now)) (string-bytes (c .push-ascii .last .out)) (string-bytes (c .loop-byte .out)) (string-bytes (c .push-ascii-2 .last .out)) (c .loop-byte-test .left) (c .in-Continue-push-ascii .ensures tt (omega arith)) (c .loop-byte .inv) (e (omega arith)))
+    (c .push-ascii-2 .ensures)
