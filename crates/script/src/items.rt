@@ -139,9 +139,11 @@ pub impl Item for Written as WrittenItem {
         let Some((token, rest)) = first(tokens) else {
             return Err(Fault::Expected(Part::Argument));
         };
-        let Some(text) = text_of(token) else {
-            let (id, rest) = read_id(tokens)?;
+        if let Token::Number(id) = token {
             return Ok((Written { id, name: None }, rest));
+        }
+        let Some(text) = text_of(token) else {
+            return Err(Fault::Expected(Part::Argument));
         };
         let (id, rest) = read_id(pointed(rest)?)?;
         let name = ArgumentName {
