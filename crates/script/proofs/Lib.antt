@@ -8,3 +8,4 @@ pub mod Comments
 pub mod Unmapping
 pub mod Insides
 pub mod Answering
+pub mod Examples

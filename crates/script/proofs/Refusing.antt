@@ -10,24 +10,21 @@ use Rattle.std.specs.declared.result.Result.the-variants.{Ok, Err}
 use Rattle.arguments.specs.declared.written.ArgumentName.{ArgumentName}
 use Rattle.script.specs.declared.fault.Fault.{Fault}
 use Rattle.script.specs.declared.tokens.Token.{Token}
-use Rattle.script.specs.declared.tokens.Token.the-variants.{Number, Arrow}
+use Rattle.script.specs.declared.tokens.Token.the-variants.{Number}
 use Rattle.script.specs.declared.items.Text.{Text}
 use Rattle.script.specs.declared.items.Written.{Written}
 use Rattle.script.specs.Seen.{Expects}
-use Rattle.script.specs.Spelling.{textToken, textOf, spelledName, spelledArgument, spelledId, spelledList, Foreign, Begins, BeginsList}
+use Rattle.script.specs.Spelling.{textToken, textOf, spelledName, spelledArgument, spelledList, Foreign, BeginsList}
 use Rattle.script.proofs.Runs.{expects-more}
 
 -- a refusal that is handed on
-pub begins-none : {X : Type 0} (spelled : X → List Token) (ts : List Token) (r : Result (X × RefT (List Token)) Fault) (e y : Fault) {P : Type 0} → r ≡ Err y → y ≡ e → (P → Foreign spelled ts) → Expects e P → Begins spelled ts r
-begins-none spelled ts r e y p q f n = subst (Begins spelled ts) (sym (p ∙ ap Err q)) (expects-more e f n)
-
 pub list-none : {X : Type 0} (spelled : X → List Token) (ts : List Token) (xs : List X) (r : Result (RefT (List Token)) Fault) (e y : Fault) {P : Type 0} → r ≡ Err y → y ≡ e → (P → Foreign (spelledList spelled) ts) → Expects e P → BeginsList spelled ts xs r
 list-none spelled ts xs r e y p q f n = subst (BeginsList spelled ts xs) (sym (p ∙ ap Err q)) (expects-more e f n)
 
-named-go : (ts : List Token) (t : Token) (more : List Token) → ts ≡ t ∷ more → ((x : Text) → t ≡ textToken x → ⊥) → Foreign spelledId ts → (m : Option ArgumentName) (i : ℕ) (rest : List Token) → ts ≡ spelledName m (Number i ∷ []) ++ rest → ⊥
-named-go ts t more e h f None i rest q = f i rest q
-named-go ts t more e h f (Some n) i rest q = let z : t ≡ textToken (textOf n) = cc in h (textOf n) z
+argument-go : (ts : List Token) (t : Token) (more : List Token) → ts ≡ t ∷ more → ((n : ℕ) → t ≡ Number n → ⊥) → ((x : Text) → t ≡ textToken x → ⊥) → (m : Option ArgumentName) (i : ℕ) (rest : List Token) → ts ≡ spelledName m (Number i ∷ []) ++ rest → ⊥
+argument-go ts t more e n h None i rest q = let z : t ≡ Number i = cc in n i z
+argument-go ts t more e n h (Some m) i rest q = let z : t ≡ textToken (textOf m) = cc in h (textOf m) z
 
--- neither a text nor an id is the beginning of an argument
-pub no-argument : (ts : List Token) (t : Token) (more : List Token) → ts ≡ t ∷ more → ((x : Text) → t ≡ textToken x → ⊥) → Foreign spelledId ts → Foreign spelledArgument ts
-no-argument ts t more e h f w rest q = named-go ts t more e h f (w .name) (w .id) rest q
+-- an argument begins with a number or a text
+pub no-argument : (ts : List Token) (t : Token) (more : List Token) → ts ≡ t ∷ more → ((n : ℕ) → t ≡ Number n → ⊥) → ((x : Text) → t ≡ textToken x → ⊥) → Foreign spelledArgument ts
+no-argument ts t more e n h w rest q = argument-go ts t more e n h (w .name) (w .id) rest q

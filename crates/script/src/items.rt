@@ -2,7 +2,7 @@
 ghost use mathlib.Core.Path.{_≡_};
 ghost use mathlib.Core.List.{List, [], _∷_, _++_};
 ghost use Rattle.std.specs.Options.{Cases as BySome};
-ghost use Rattle.script.specs.declared.tokens.Token.{Token as Tokens};
+ghost use Rattle.script.specs.declared.tokens.Token.{Token as Mark};
 ghost use Rattle.script.specs.declared.tokens.Token.the-variants.{Open, Close, Comma, Arrow};
 ghost use Rattle.script.specs.Spelling.{textToken, spelledText, spelledArgument, spelledId, Apart, Begins, Follows};
 ghost use Rattle.script.specs.Laws.{texts-apart, arguments-apart};
@@ -28,7 +28,7 @@ pub struct Written {
 
 // What a list can be of.
 pub trait Item: Sized {
-    ghost spelled: { Self → List Tokens };
+    ghost spelled: { Self → List Mark };
 
     ghost apart: { Apart spelled };
 
@@ -86,7 +86,7 @@ pub fn separated(tokens: &[Token]) -> Result<&[Token], Fault>
 
 // What follows the parenthesis that closes a list, where it stands first.
 pub fn closed(tokens: &[Token]) -> Option<&[Token]>
-    ensures { λ r. ⌜ BySome r ((rest : List Tokens) → now (tokens .entry) ≡ Close ∷ rest → ⊥) (λ rest. now (tokens .entry) ≡ Close ∷ now rest) ⌝ }
+    ensures { λ r. ⌜ BySome r ((rest : List Mark) → now (tokens .entry) ≡ Close ∷ rest → ⊥) (λ rest. now (tokens .entry) ≡ Close ∷ now rest) ⌝ }
 {
     match first(tokens) {
         Some((Token::Close, rest)) => Some(rest),
@@ -139,9 +139,11 @@ pub impl Item for Written as WrittenItem {
         let Some((token, rest)) = first(tokens) else {
             return Err(Fault::Expected(Part::Argument));
         };
-        let Some(text) = text_of(token) else {
-            let (id, rest) = read_id(tokens)?;
+        if let Token::Number(id) = token {
             return Ok((Written { id, name: None }, rest));
+        }
+        let Some(text) = text_of(token) else {
+            return Err(Fault::Expected(Part::Argument));
         };
         let (id, rest) = read_id(pointed(rest)?)?;
         let name = ArgumentName {

@@ -12,7 +12,7 @@ use crate::items::separated;
 use crate::tokens::Token;
 
 // Reads the list that the tokens begin with. The answer is what follows it.
-pub fn read_list<'a, T: Item + Drop>(
+pub(crate) fn read_list<'a, T: Item + Drop>(
     tokens: &'a [Token],
     items: &mut Vec<T>,
 ) -> Result<&'a [Token], Fault>
