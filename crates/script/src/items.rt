@@ -38,7 +38,7 @@ pub trait Item: Sized {
 }
 
 // The first token, and what follows it.
-pub fn first(tokens: &[Token]) -> Option<(Token, &[Token])>
+pub(crate) fn first(tokens: &[Token]) -> Option<(Token, &[Token])>
     ensures { λ r. ⌜ BySome r (now (tokens .entry) ≡ []) (λ p. now (tokens .entry) ≡ p .0 ∷ now (p .1)) ⌝ }
 {
     match tokens {
@@ -48,7 +48,7 @@ pub fn first(tokens: &[Token]) -> Option<(Token, &[Token])>
 }
 
 // The text that a token is.
-pub fn text_of(token: Token) -> Option<Text>
+pub(crate) fn text_of(token: Token) -> Option<Text>
     ensures { λ r. ⌜ BySome r ((t : Text) → token ≡ textToken t → ⊥) (λ t. token ≡ textToken t) ⌝ }
 {
     match token {
@@ -65,7 +65,7 @@ pub fn text_of(token: Token) -> Option<Text>
 }
 
 // What follows the parenthesis that opens a list.
-pub fn opened(tokens: &[Token]) -> Result<&[Token], Fault>
+pub(crate) fn opened(tokens: &[Token]) -> Result<&[Token], Fault>
     ensures { λ r. ⌜ Follows Open (now (tokens .entry)) r ⌝ }
 {
     match first(tokens) {
@@ -75,7 +75,7 @@ pub fn opened(tokens: &[Token]) -> Result<&[Token], Fault>
 }
 
 // What follows a comma.
-pub fn separated(tokens: &[Token]) -> Result<&[Token], Fault>
+pub(crate) fn separated(tokens: &[Token]) -> Result<&[Token], Fault>
     ensures { λ r. ⌜ Follows Comma (now (tokens .entry)) r ⌝ }
 {
     match first(tokens) {
@@ -85,7 +85,7 @@ pub fn separated(tokens: &[Token]) -> Result<&[Token], Fault>
 }
 
 // What follows the parenthesis that closes a list, where it stands first.
-pub fn closed(tokens: &[Token]) -> Option<&[Token]>
+pub(crate) fn closed(tokens: &[Token]) -> Option<&[Token]>
     ensures { λ r. ⌜ BySome r ((rest : List Mark) → now (tokens .entry) ≡ Close ∷ rest → ⊥) (λ rest. now (tokens .entry) ≡ Close ∷ now rest) ⌝ }
 {
     match first(tokens) {

@@ -104,12 +104,12 @@ fn split(
 {
     let mut args = Vec::new(heap);
     let mut names = Vec::new(heap);
-    for w in written {
+    for i in 0..written.len() {
         args.push(Argument {
-            id: w.id,
+            id: written[i].id,
             type_number: 0,
         })?;
-        names.push(w.name)?;
+        names.push(written[i].name)?;
     }
     Ok((args, names))
 }
