@@ -8,4 +8,3 @@ pub mod Comments
 pub mod Unmapping
 pub mod Insides
 pub mod Answering
-pub mod Examples

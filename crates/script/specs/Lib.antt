@@ -4,3 +4,4 @@ pub mod Spelling
 pub mod Laws
 pub mod Lines
 pub mod Whole
+pub mod Worked

@@ -19,6 +19,7 @@ pub use messages::FaultDisplay;
 pub use messages::PartDisplay;
 pub use reads::ReadLine;
 pub use reads::read_line;
+pub use reads::worked_lines;
 pub use tokens::Span;
 pub use tokens::Token;
 pub use tokens::Tokens;

@@ -1,8 +1,11 @@
 // Reads a line of a script from its bytes.
 ghost use mathlib.Core.Path.{_≡_};
+ghost use lib.ListN.{length};
+ghost use Rattle.std.specs.shelf.Lists.{All};
 ghost use Rattle.std.specs.Vec.{refused};
 ghost use Rattle.script.specs.Seen.{Faulty};
 ghost use Rattle.script.specs.Whole.{isBlank, comment, Answers};
+ghost use Rattle.script.specs.Worked.{Holds, table};
 use crate::fault::Fault;
 use crate::lines::Line;
 use crate::lines::line_of;
@@ -49,4 +52,12 @@ pub fn read_line(heap: Global, line: &[u8]) -> Result<ReadLine, Fault>
     let Tokens { text, tokens } = tokens_of(heap, line)?;
     let line = line_of(heap, text.as_slice(), tokens.as_slice())?;
     Ok(ReadLine { text, line })
+}
+
+// How many worked lines there are: a table of lines, each with the tokens that the definition gives it.
+pub fn worked_lines() -> usize
+    ensures value { λ r. ⌜ r ≡ length table ⌝ }
+    ensures cases { λ _. ⌜ All Holds table ⌝ }
+{
+    7
 }
