@@ -16,7 +16,7 @@ use Rattle.std.specs.declared.result.Result.the-variants.{Ok, Err}
 use Rattle.terms.specs.Refusals.{refusal}
 use Rattle.terms.specs.Limits.{most-arguments}
 use Rattle.terms.specs.declared.Reason.{Reason}
-use Rattle.terms.specs.declared.Reason.the-variants.{LabelTooLong, BadFunction, UnknownFunction, MalformedCall, PositionalAfterNamed, TooManyPositional, UnknownParameter, ParameterGivenTwice, MissingParameter}
+use Rattle.terms.specs.declared.Reason.the-variants.{MalformedCall, PositionalAfterNamed, TooManyPositional, UnknownParameter, ParameterGivenTwice, MissingParameter}
 use Rattle.terms.specs.declared.Refusal.{Refusal}
 use Rattle.arguments.specs.declared.written.Argument.{Argument}
 use Rattle.arguments.specs.declared.written.ArgumentName.{ArgumentName}
@@ -24,10 +24,11 @@ use Rattle.arguments.specs.First.{when, first, first-below, any-below, count-b
 use Rattle.arguments.specs.Names.{Name}
 use Rattle.arguments.specs.Places.{Outcome, unless, blank, named, outside, malformed, late, crowded, goes, goes-to, place, giver, clash-of, clash, empty, standing, by-place, with-names, settled, resolves}
 use Rattle.arguments.specs.Standing.{Belongs, Place, Stands, Outside, Says, Exactly}
+use Rattle.arguments.specs.Standing.Says.{too-many, counts-differ, name-outside, positional-late, positional-many, unknown, twice, missing}
 use Rattle.arguments.specs.View.{spell}
 use Rattle.arguments.proofs.Firsts.{first-some, first-none, when-some, when-none, some-there, none-there, any-there, any-none, any-hit}
 use Rattle.arguments.proofs.Fitting.{goes-belongs, belongs-goes}
-use Rattle.arguments.proofs.Spelling.{as-many}
+use Rattle.arguments.proofs.Spelling.{as-many, named-spelled, count-spelled}
 use Rattle.arguments.proofs.Squeeze.{Apart, onto}
 
 pub goes-to-is : (o : Option ℕ) (k : ℕ) → goes-to o k ≡ true → o ≡ Some k
@@ -141,7 +142,23 @@ module _ (params : List (List ℕ)) (text : List ℕ) (args : List Argument) (na
   ns = spell text names
 
   abbrev True : Refusal → Type 0
-  True r = Says params text args names ns (r .reason) (r .place)
+  True r = Says params text args names (r .reason) (r .place)
+
+  -- the names as they are spelled, and as they are handed in
+  below : (i : ℕ) → i < length ns → i < length names
+  below i l = omega (arith, as-many text names)
+
+  spelled-below : (i : ℕ) → i < length names → i < length ns
+  spelled-below i l = omega (arith, as-many text names)
+
+  is-named : (i : ℕ) (b : Bool) → named ns i ≡ b → named names i ≡ b
+  is-named i b e = sym (named-spelled text names i) ∙ e
+
+  is-spelled : (i : ℕ) (b : Bool) → named names i ≡ b → named ns i ≡ b
+  is-spelled i b e = named-spelled text names i ∙ e
+
+  same-count : count-below (λ i. not (named ns i)) (length ns) ≡ count-below (λ i. not (named names i)) (length names)
+  same-count = ap (count-below (λ i. not (named ns i))) (as-many text names) ∙ count-spelled text names (length names)
 
   malformed-true : (r : Refusal) → malformed text args names ≡ Some r → True r
   malformed-true r e =
@@ -149,16 +166,13 @@ module _ (params : List (List ℕ)) (text : List ℕ) (args : List Argument) (na
       let differ = not (eqb (length args) (length names)) in
       let out = any-below (λ i. outside text (getD names i None)) (length names) in
       let w = when-some (many || (differ || out)) (refusal MalformedCall 0) r e in
-      subst True (w .1) (
-        refl,
-        elim (or-cases many (differ || out) (w .0)) [
-          | inl h ↦ inl (ltb-true most-arguments (length args) h)
-          | inr h ↦ elim (or-cases differ out h) [
-            | inl g ↦ inr (inl (eqb-false (length args) (length names) (not-true (eqb (length args) (length names)) g)))
-            | inr g ↦ inr (inr (let s = any-there (λ i. outside text (getD names i None)) (length names) g in (s .0, s .1, outside-is text (getD names (s .0) None) (s .2))))
-          ]
-        ],
-      )
+      subst True (w .1) (elim (or-cases many (differ || out) (w .0)) [
+        | inl h ↦ too-many (ltb-true most-arguments (length args) h)
+        | inr h ↦ elim (or-cases differ out h) [
+          | inl g ↦ counts-differ (eqb-false (length args) (length names) (not-true (eqb (length args) (length names)) g))
+          | inr g ↦ let s = any-there (λ i. outside text (getD names i None)) (length names) g in name-outside (s .0) (s .1) (outside-is text (getD names (s .0) None) (s .2))
+        ]
+      ])
 
   late-true : (r : Refusal) → first (late ns) (length ns) ≡ Some r → True r
   late-true r e =
@@ -166,31 +180,35 @@ module _ (params : List (List ℕ)) (text : List ℕ) (args : List Argument) (na
       let i = s .0 in
       let w = when-some (not (named ns i) && any-below (named ns) i) (refusal PositionalAfterNamed i) r (s .2) in
       let p = and-parts (not (named ns i)) (any-below (named ns) i) (w .0) in
-      subst True (w .1) (s .1, not-true (named ns i) (p .0), any-there (named ns) i (p .1))
+      let j = any-there (named ns) i (p .1) in
+      subst True (w .1) (positional-late i (j .0) (below i (s .1)) (is-named i false (not-true (named ns i) (p .0))) (j .1) (is-named (j .0) true (j .2)))
 
   crowded-true : any-below (named ns) (length ns) ≡ true → (r : Refusal) → crowded params ns ≡ Some r → True r
   crowded-true a r e =
       let count = count-below (λ i. not (named ns i)) (length ns) in
       let w = when-some (ltb (length params) count) (refusal TooManyPositional 0) r e in
-      subst True (w .1) (refl, any-there (named ns) (length ns) a, ltb-true (length params) count (w .0))
+      let j = any-there (named ns) (length ns) a in
+      subst True (w .1) (positional-many (j .0) (below (j .0) (j .1)) (is-named (j .0) true (j .2)) (rw same-count at (ltb-true (length params) count (w .0))))
 
   clash-true : (r : Refusal) → first (clash params ns) (length ns) ≡ Some r → True r
   clash-true r e = let s = first-some (clash params ns) (length ns) r e in go (s .0) (s .1) (place params ns (s .0)) refl (s .2)
     where
       go : (i : ℕ) → i < length ns → (o : Option ℕ) → place params ns i ≡ o → clash-of params ns i o ≡ Some r → True r
-      go i l None p q = let d : refusal UnknownParameter i ≡ r = cc in subst True d (l, λ k h. let a = is-place params ns i k h in let z : _≡_ {A = ℕ} 0 1 = cc in omega arith)
+      go i l None p q =
+          let d : refusal UnknownParameter i ≡ r = cc in
+          subst True d (unknown i (below i l) (λ k h. let a = is-place params ns i k h in let z : _≡_ {A = ℕ} 0 1 = cc in omega arith))
       go i l (Some k) p q =
           let w = when-some (isSome (giver params ns i k)) (refusal ParameterGivenTwice i) r q in
           let g = some-there (giver params ns i k) (w .0) in
           let j = giver-some params ns i k (g .0) (g .1) in
-          subst True (w .1) (g .0, k, j .0, place-is params ns (g .0) k (omega (arith, j .0)) (j .1), place-is params ns i k l p)
+          subst True (w .1) (twice i (g .0) k (j .0) (place-is params ns (g .0) k (omega (arith, j .0)) (j .1)) (place-is params ns i k l p))
 
   empty-true : (r : Refusal) → first (empty params ns) (length ns) ≡ Some r → True r
   empty-true r e =
       let s = first-some (empty params ns) (length ns) r e in
       let k = s .0 in
       let w = when-some (not (isSome (giver params ns (length ns) k))) (refusal MissingParameter k) r (s .2) in
-      subst True (w .1) (s .1, λ i h. both-ways (isSome (giver params ns (length ns) k)) (not-true (isSome (giver params ns (length ns) k)) (w .0)) (giver-hit params ns (length ns) k i (h .0) (is-place params ns i k h)))
+      subst True (w .1) (missing k (below k (s .1)) (λ i h. both-ways (isSome (giver params ns (length ns) k)) (not-true (isSome (giver params ns (length ns) k)) (w .0)) (giver-hit params ns (length ns) k i (h .0) (is-place params ns i k h))))
 
   -- what a call has that is not malformed
   pub well-formed : malformed text args names ≡ None → (length args ≤ most-arguments) × (length args ≡ length names) × ((i : ℕ) → i < length names → outside text (getD names i None) ≡ false)
@@ -203,48 +221,53 @@ module _ (params : List (List ℕ)) (text : List ℕ) (args : List Argument) (na
       (ltb-false most-arguments (length args) (p .0), eqb-true (length args) (length names) (not-false (eqb (length args) (length names)) (q .0)), any-none (λ i. outside text (getD names i None)) (length names) (q .1))
 
   abbrev None-true : Type 0
-  None-true = (r : Reason) (p : ℕ) → Says params text args names ns r p → ⊥
+  None-true = (r : Reason) (p : ℕ) → Says params text args names r p → ⊥
 
-  -- a call that is not malformed says nothing of that kind
-  not-malformed : malformed text args names ≡ None → (p : ℕ) → Says params text args names ns MalformedCall p → ⊥
-  not-malformed e p h = let w = well-formed e in elim (h .1) [
-    | inl a ↦ omega (arith, w .0)
-    | inr (inl a) ↦ a (w .1)
-    | inr (inr a) ↦ both-ways (outside text (getD names (a .0) None)) (w .2 (a .0) (a .1)) (is-outside text (getD names (a .0) None) (a .2))
-  ]
+  not-outside : malformed text args names ≡ None → (i : ℕ) → i < length names → Outside text (getD names i None) → ⊥
+  not-outside e i l h = both-ways (outside text (getD names i None)) (well-formed e .2 i l) (is-outside text (getD names i None) h)
 
-  none-named : malformed text args names ≡ None → any-below (named ns) (length ns) ≡ false → None-true
-  none-named e a LabelTooLong p h = h
-  none-named e a BadFunction p h = h
-  none-named e a UnknownFunction p h = h
-  none-named e a MalformedCall p h = not-malformed e p h
-  none-named e a PositionalAfterNamed p h = both-ways (named ns (h .2 .0)) (any-none (named ns) (length ns) a (h .2 .0) (omega (arith, h .0, h .2 .1))) (h .2 .2)
-  none-named e a TooManyPositional p h = both-ways (named ns (h .1 .0)) (any-none (named ns) (length ns) a (h .1 .0) (h .1 .1)) (h .1 .2)
-  none-named e a UnknownParameter p h = h .1 p (h .0, none-at params p (getD ns p None) (none-there (getD ns p None) (any-none (named ns) (length ns) a p (h .0))))
-  none-named e a ParameterGivenTwice p h =
-      let none : (i : ℕ) → i < length ns → getD ns i None ≡ None = λ i l. none-there (getD ns i None) (any-none (named ns) (length ns) a i l) in
-      let b = at-none params (h .0) (h .1) (getD ns (h .0) None) (none (h .0) (h .3 .0)) (h .3 .1) in
-      let d = at-none params p (h .1) (getD ns p None) (none p (h .4 .0)) (h .4 .1) in
-      omega (arith, h .2)
-  none-named e a MissingParameter p h = h .1 p (h .0, none-at params p (getD ns p None) (none-there (getD ns p None) (any-none (named ns) (length ns) a p (h .0))))
+  module _ (e : malformed text args names ≡ None) (a : any-below (named ns) (length ns) ≡ false) where
+    unnamed : (i : ℕ) → i < length names → getD ns i None ≡ None
+    unnamed i l = none-there (getD ns i None) (any-none (named ns) (length ns) a i (spelled-below i l))
+
+    not-named : (i : ℕ) → i < length names → named names i ≡ true → ⊥
+    not-named i l h = both-ways (named ns i) (any-none (named ns) (length ns) a i (spelled-below i l)) (is-spelled i true h)
+
+    here : (i : ℕ) → i < length names → Place params ns i i
+    here i l = (spelled-below i l, none-at params i (getD ns i None) (unnamed i l))
+
+    none-named : None-true
+    none-named r q (too-many h) = omega (arith, well-formed e .0)
+    none-named r q (counts-differ h) = h (well-formed e .1)
+    none-named r q (name-outside i l h) = not-outside e i l h
+    none-named r q (positional-late p j l u m h) = not-named j (omega arith) h
+    none-named r q (positional-many j l h m) = not-named j l h
+    none-named r q (unknown p l h) = h p (here p l)
+    none-named r q (twice p j k l g h) =
+        let b = at-none params j k (getD ns j None) (unnamed j (below j (g .0))) (g .1) in
+        let d = at-none params p k (getD ns p None) (unnamed p (below p (h .0))) (h .1) in
+        omega arith
+    none-named r q (missing p l h) = h p (here p l)
 
   none-refused : malformed text args names ≡ None → first (late ns) (length ns) ≡ None → crowded params ns ≡ None → first (clash params ns) (length ns) ≡ None → first (empty params ns) (length ns) ≡ None → None-true
-  none-refused e l w c m LabelTooLong p h = h
-  none-refused e l w c m BadFunction p h = h
-  none-refused e l w c m UnknownFunction p h = h
-  none-refused e l w c m MalformedCall p h = not-malformed e p h
-  none-refused e l w c m PositionalAfterNamed p h =
-      let a = when-none (not (named ns p) && any-below (named ns) p) (refusal PositionalAfterNamed p) (first-none (late ns) (length ns) l p (h .0)) in
-      both-ways (not (named ns p) && any-below (named ns) p) a (and-from (not (named ns p)) (any-below (named ns) p) (not-from-false (named ns p) (h .1)) (any-hit (named ns) p (h .2 .0) (h .2 .1) (h .2 .2)))
-  none-refused e l w c m TooManyPositional p h =
+  none-refused e l w c m r q (too-many h) = omega (arith, well-formed e .0)
+  none-refused e l w c m r q (counts-differ h) = h (well-formed e .1)
+  none-refused e l w c m r q (name-outside i b h) = not-outside e i b h
+  none-refused e l w c m r q (positional-late p j b u s h) =
+      let a = when-none (not (named ns p) && any-below (named ns) p) (refusal PositionalAfterNamed p) (first-none (late ns) (length ns) l p (spelled-below p b)) in
+      both-ways (not (named ns p) && any-below (named ns) p) a
+      (and-from (not (named ns p)) (any-below (named ns) p) (not-from-false (named ns p) (is-spelled p false u)) (any-hit (named ns) p j s (is-spelled j true h)))
+  none-refused e l w c m r q (positional-many j b h g) =
       let count = count-below (λ i. not (named ns i)) (length ns) in
       let a = ltb-false (length params) count (when-none (ltb (length params) count) (refusal TooManyPositional 0) w) in
-      omega (arith, h .2)
-  none-refused e l w c m UnknownParameter p h =
-      let a = clash-none params ns p (place params ns p) (first-none (clash params ns) (length ns) c p (h .0)) in
-      h .1 (a .0) (place-is params ns p (a .0) (h .0) (a .1))
-  none-refused e l w c m ParameterGivenTwice p h = apart params ns c (h .0) p (h .1) (h .2) (h .3) (h .4)
-  none-refused e l w c m MissingParameter p h = let g = held params ns m p (h .0) in h .1 (holder params ns p) (place-is params ns (holder params ns p) p (g .0) (g .1))
+      omega (arith, same-count)
+  none-refused e l w c m r q (unknown p b h) =
+      let a = clash-none params ns p (place params ns p) (first-none (clash params ns) (length ns) c p (spelled-below p b)) in
+      h (a .0) (place-is params ns p (a .0) (spelled-below p b) (a .1))
+  none-refused e l w c m r q (twice p j k b g h) = apart params ns c j p k b g h
+  none-refused e l w c m r q (missing p b h) =
+      let g = held params ns m p (spelled-below p b) in
+      h (holder params ns p) (place-is params ns (holder params ns p) p (g .0) (g .1))
 
   abbrev Exact : Outcome → Type 0
   Exact = Exactly params text args names

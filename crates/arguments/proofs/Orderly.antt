@@ -13,7 +13,7 @@ use Rattle.std.specs.declared.option.Option.{Option}
 use Rattle.std.specs.declared.option.Option.the-variants.{Some, None}
 use Rattle.std.specs.declared.result.Result.the-variants.{Ok, Err}
 use Rattle.terms.specs.declared.Reason.{Reason}
-use Rattle.terms.specs.declared.Reason.the-variants.{LabelTooLong, BadFunction, UnknownFunction, MalformedCall, PositionalAfterNamed, TooManyPositional, UnknownParameter, ParameterGivenTwice, MissingParameter}
+use Rattle.terms.specs.declared.Reason.the-variants.{MalformedCall, PositionalAfterNamed, TooManyPositional, UnknownParameter, ParameterGivenTwice, MissingParameter}
 use Rattle.arguments.specs.declared.written.Argument.{Argument}
 use Rattle.arguments.specs.declared.written.ArgumentName.{ArgumentName}
 use Rattle.arguments.specs.First.{count-below}
@@ -21,10 +21,11 @@ use Rattle.arguments.specs.Names.{Name}
 use Rattle.arguments.specs.Orders.{Reordered, Alike}
 use Rattle.arguments.specs.Places.{Outcome, blank, named, resolves}
 use Rattle.arguments.specs.Standing.{Belongs, Place, Stands, Outside, Says, Exactly}
+use Rattle.arguments.specs.Standing.Says.{too-many, counts-differ, name-outside, positional-late, positional-many, unknown, twice, missing}
 use Rattle.arguments.specs.View.{spell, spelled}
 use Rattle.arguments.proofs.Exact.{exact}
 use Rattle.arguments.proofs.Firsts.{count-same}
-use Rattle.arguments.proofs.Spelling.{spell-at, as-many, named-spelled}
+use Rattle.arguments.proofs.Spelling.{spell-at, as-many}
 
 -- what was moved can be moved back
 abbrev back-again : {args args′ : List Argument} {names names′ : List (Option ArgumentName)} → Reordered args names args′ names′ → Reordered args′ names′ args names
@@ -84,15 +85,14 @@ module _ (params : List (List ℕ)) (text : List ℕ) {args args′ : List Argum
       let l′ : i < length names′ = omega (arith, r .as-many-names) in
       absurd (let a : getD names i None ≡ None = ap (λ (j : ℕ). getD names j None) (sym (b .still i l′ e′)) ∙ b .name i l′ ∙ e′ in let z : _≡_ {A = ℕ} 0 1 = cc in omega arith)
 
-  same-named : (i : ℕ) → i < length names → named (spell text names′) i ≡ named (spell text names) i
-  same-named i l =
-      named-spelled text names′ i ∙ still-named i l (getD names i None) (getD names′ i None) refl refl ∙ sym (named-spelled text names i)
+  same-named : (i : ℕ) → i < length names → named names′ i ≡ named names i
+  same-named i l = still-named i l (getD names i None) (getD names′ i None) refl refl
 
-  same-count : count-below (λ i. not (named (spell text names′) i)) (length (spell text names′)) ≡ count-below (λ i. not (named (spell text names) i)) (length (spell text names))
-  same-count = rw (long, long′) (count-same (λ i. not (named (spell text names′) i)) (λ i. not (named (spell text names) i)) (length names) (λ k l. ap not (same-named k l)))
+  same-count : count-below (λ i. not (named names′ i)) (length names′) ≡ count-below (λ i. not (named names i)) (length names)
+  same-count = rw (r .as-many-names) (count-same (λ i. not (named names′ i)) (λ i. not (named names i)) (length names) (λ k l. ap not (same-named k l)))
 
   abbrev Some-says : Type 0
-  Some-says = (q : Reason) × (p : ℕ) × Says params text args names (spell text names) q p
+  Some-says = (q : Reason) × (p : ℕ) × Says params text args names q p
 
 module _ (params : List (List ℕ)) (text : List ℕ) {args args′ : List Argument} {names names′ : List (Option ArgumentName)} (r : Reordered args names args′ names′) where
   back-place : (i k : ℕ) → Place params (spell text names′) i k → Place params (spell text names) (r .from i) k
@@ -105,46 +105,34 @@ module _ (params : List (List ℕ)) (text : List ℕ) {args args′ : List Argum
   long-ns′ = long′ params text r
 
   -- two of the arguments as they were belong at one place
-  twice : (i j k : ℕ) → (i ≡ j → ⊥) → Place params (spell text names) i k → Place params (spell text names) j k → Some-says params text r
-  twice i j k d p q = elim (cases-order i j) [
+  both-at : (i j k : ℕ) → (i ≡ j → ⊥) → Place params (spell text names) i k → Place params (spell text names) j k → Some-says params text r
+  both-at i j k d p q = elim (cases-order i j) [
     | inl e ↦ absurd (d e)
-    | inr (inl l) ↦ (ParameterGivenTwice, j, (i, k, l, p, q))
-    | inr (inr l) ↦ (ParameterGivenTwice, i, (j, k, l, q, p))
+    | inr (inl l) ↦ (ParameterGivenTwice, j, twice j i k l p q)
+    | inr (inr l) ↦ (ParameterGivenTwice, i, twice i j k l q p)
   ]
 
   -- a refusal that is true of the call in its other order, so some refusal is true of the call
-  says-moved : (q : Reason) (p : ℕ) → Says params text args′ names′ (spell text names′) q p → Some-says params text r
-  says-moved LabelTooLong p h = absurd h
-  says-moved BadFunction p h = absurd h
-  says-moved UnknownFunction p h = absurd h
-  says-moved MalformedCall p h = (
-    MalformedCall,
-    0,
-    (
-      refl,
-      elim (h .1) [
-        | inl a ↦ inl (omega (arith, r .as-many))
-        | inr (inl a) ↦ inr (inl (λ e. a (r .as-many ∙ e ∙ sym (r .as-many-names))))
-        | inr (inr a) ↦ let b = back-again r in inr (inr (r .from (a .0), r .from-within (a .0) (omega (arith, a .1, r .as-many-names)), subst (Outside text) (sym (b .name (a .0) (a .1))) (a .2)))
-      ],
-    ),
-  )
-  says-moved PositionalAfterNamed p h =
-      let l : p < length names = omega (arith, h .0, long-ns′) in
-      (PositionalAfterNamed, p, (omega (arith, long-ns), sym (same-named params text r p l) ∙ h .1, (h .2 .0, h .2 .1, sym (same-named params text r (h .2 .0) (omega (arith, h .2 .1))) ∙ h .2 .2)))
-  says-moved TooManyPositional p h =
-      let l : h .1 .0 < length names = omega (arith, h .1 .1, long-ns′) in
-      (TooManyPositional, 0, (refl, (h .1 .0, omega (arith, long-ns), sym (same-named params text r (h .1 .0) l) ∙ h .1 .2), rw (same-count params text r) at (h .2)))
-  says-moved UnknownParameter p h =
-      let l : p < length names = omega (arith, h .0, long-ns′) in
-      let w = r .from-within p l in
-      (UnknownParameter, r .from p, (omega (arith, long-ns), λ k g. h .1 k (subst (λ (j : ℕ). Place params (spell text names′) j k) (r .forth p l) (moves params text r (r .from p) k g))))
-  says-moved ParameterGivenTwice p h =
-      let j = h .0 in
-      let lj : j < length names = omega (arith, h .3 .0, long-ns′) in
-      let lp : p < length names = omega (arith, h .4 .0, long-ns′) in
-      twice (r .from j) (r .from p) (h .1) (λ e. let a = r .forth j lj in let b = r .forth p lp in let d = ap (r .to) e in omega (arith, h .2)) (back-place j (h .1) (h .3)) (back-place p (h .1) (h .4))
-  says-moved MissingParameter p h = (MissingParameter, p, (omega (arith, h .0, long-ns, long-ns′), λ i g. h .1 (r .to i) (moves params text r i p g)))
+  says-moved : (q : Reason) (p : ℕ) → Says params text args′ names′ q p → Some-says params text r
+  says-moved q p (too-many h) = (MalformedCall, 0, too-many (omega (arith, r .as-many)))
+  says-moved q p (counts-differ h) = (MalformedCall, 0, counts-differ (λ e. h (r .as-many ∙ e ∙ sym (r .as-many-names))))
+  says-moved q p (name-outside i l h) =
+      let b = back-again r in
+      (MalformedCall, 0, name-outside (r .from i) (r .from-within i (omega (arith, r .as-many-names))) (subst (Outside text) (sym (b .name i l)) h))
+  says-moved q p (positional-late k j l u m h) =
+      let b : k < length names = omega (arith, r .as-many-names) in
+      (PositionalAfterNamed, k, positional-late k j b (sym (same-named params text r k b) ∙ u) m (sym (same-named params text r j (omega arith)) ∙ h))
+  says-moved q p (positional-many j l h m) =
+      let b : j < length names = omega (arith, r .as-many-names) in
+      (TooManyPositional, 0, positional-many j b (sym (same-named params text r j b) ∙ h) (rw (same-count params text r) at m))
+  says-moved q p (unknown k l h) =
+      let b : k < length names = omega (arith, r .as-many-names) in
+      (UnknownParameter, r .from k, unknown (r .from k) (r .from-within k b) (λ j g. h j (subst (λ (i : ℕ). Place params (spell text names′) i j) (r .forth k b) (moves params text r (r .from k) j g))))
+  says-moved q p (twice i j k l g h) =
+      let lj : j < length names = omega (arith, g .0, long-ns′) in
+      let li : i < length names = omega (arith, h .0, long-ns′) in
+      both-at (r .from j) (r .from i) k (λ e. let a = r .forth j lj in let b = r .forth i li in let d = ap (r .to) e in omega arith) (back-place j k g) (back-place i k h)
+  says-moved q p (missing k l h) = (MissingParameter, k, missing k (omega (arith, r .as-many-names)) (λ i g. h (r .to i) (moves params text r i k g)))
 
   same-answer : (xs ys : List Argument) → Stands params (spell text names) args xs → Stands params (spell text names′) args′ ys → xs ≡ ys
   same-answer xs ys s t = ext-getD blank xs ys (s .count ∙ sym (r .as-many) ∙ sym (t .count))

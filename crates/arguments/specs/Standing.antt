@@ -2,7 +2,6 @@
 use mathlib.Core.Path.{_≡_}
 use mathlib.Core.Bool.{true, false, not}
 use mathlib.Core.List.{List, [], map}
-use mathlib.Core.Logic.{_⊎_}
 use Prim.Native.Nat.{ℕ, _+_, _<_}
 use lib.ListN.{length, getD}
 use Rattle.std.specs.Orderings.{When}
@@ -12,7 +11,7 @@ use Rattle.std.specs.declared.option.Option.{Option}
 use Rattle.std.specs.declared.option.Option.the-variants.{Some, None}
 use Rattle.terms.specs.Limits.{most-arguments}
 use Rattle.terms.specs.declared.Reason.{Reason}
-use Rattle.terms.specs.declared.Reason.the-variants.{LabelTooLong, BadFunction, UnknownFunction, MalformedCall, PositionalAfterNamed, TooManyPositional, UnknownParameter, ParameterGivenTwice, MissingParameter}
+use Rattle.terms.specs.declared.Reason.the-variants.{MalformedCall, PositionalAfterNamed, TooManyPositional, UnknownParameter, ParameterGivenTwice, MissingParameter}
 use Rattle.arguments.specs.declared.written.Argument.{Argument}
 use Rattle.arguments.specs.declared.written.ArgumentName.{ArgumentName}
 use Rattle.arguments.specs.First.{count-below}
@@ -53,20 +52,18 @@ Outside text None = ⊥
 Outside text (Some n) = length text < n .start + n .len
 
 -- what a refusal says of the call, by its reason and its place
-module _ (params : List (List ℕ)) (text : List ℕ) (args : List Argument) (names : List (Option ArgumentName)) where
-  abbrev pub Says : List (Option Name) → Reason → ℕ → Type 0
-  Says ns LabelTooLong p = ⊥
-  Says ns BadFunction p = ⊥
-  Says ns UnknownFunction p = ⊥
-  Says ns MalformedCall p = (p ≡ 0) × ((most-arguments < length args) ⊎ ((length args ≡ length names → ⊥) ⊎ ((i : ℕ) × (i < length names) × Outside text (getD names i None))))
-  Says ns PositionalAfterNamed p = (p < length ns) × (named ns p ≡ false) × ((j : ℕ) × (j < p) × (named ns j ≡ true))
-  Says ns TooManyPositional p = (p ≡ 0) × ((j : ℕ) × (j < length ns) × (named ns j ≡ true)) × (length params < count-below (λ i. not (named ns i)) (length ns))
-  Says ns UnknownParameter p = (p < length ns) × ((k : ℕ) → Place params ns p k → ⊥)
-  Says ns ParameterGivenTwice p = (j : ℕ) × (k : ℕ) × (j < p) × Place params ns j k × Place params ns p k
-  Says ns MissingParameter p = (p < length ns) × ((i : ℕ) → Place params ns i p → ⊥)
+pub data Says (params : List (List ℕ)) (text : List ℕ) (args : List Argument) (names : List (Option ArgumentName)) : Reason → ℕ → Type 0 where
+  too-many : most-arguments < length args → Says params text args names MalformedCall 0
+  counts-differ : (length args ≡ length names → ⊥) → Says params text args names MalformedCall 0
+  name-outside : (i : ℕ) → i < length names → Outside text (getD names i None) → Says params text args names MalformedCall 0
+  positional-late : (p j : ℕ) → p < length names → named names p ≡ false → j < p → named names j ≡ true → Says params text args names PositionalAfterNamed p
+  positional-many : (j : ℕ) → j < length names → named names j ≡ true → length params < count-below (λ i. not (named names i)) (length names) → Says params text args names TooManyPositional 0
+  unknown : (p : ℕ) → p < length names → ((k : ℕ) → Place params (spell text names) p k → ⊥) → Says params text args names UnknownParameter p
+  twice : (p j k : ℕ) → j < p → Place params (spell text names) j k → Place params (spell text names) p k → Says params text args names ParameterGivenTwice p
+  missing : (p : ℕ) → p < length names → ((i : ℕ) → Place params (spell text names) i p → ⊥) → Says params text args names MissingParameter p
 
-  -- accepted exactly where no refusal would be true, and then every argument stands where it belongs; a refusal is true
-  abbrev pub Exactly : Outcome → Type 0
-  Exactly o = Cases o
-      (λ answer. Stands params (spell text names) args answer × ((r : Reason) (p : ℕ) → Says (spell text names) r p → ⊥))
-      (λ e. Says (spell text names) (e .reason) (e .place))
+-- accepted exactly where no refusal would be true, and then every argument stands where it belongs; a refusal is true
+abbrev pub Exactly : List (List ℕ) → List ℕ → List Argument → List (Option ArgumentName) → Outcome → Type 0
+Exactly params text args names o = Cases o
+    (λ answer. Stands params (spell text names) args answer × ((r : Reason) (p : ℕ) → Says params text args names r p → ⊥))
+    (λ e. Says params text args names (e .reason) (e .place))
