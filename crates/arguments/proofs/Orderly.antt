@@ -147,8 +147,8 @@ module _ (params : List (List ℕ)) (text : List ℕ) {args args′ : List Argum
 module _ (params : List (List ℕ)) (text : List ℕ) {args args′ : List Argument} {names names′ : List (Option ArgumentName)} (r : Reordered args names args′ names′) where
   both : (o o′ : Outcome) → Exactly params text args names o → Exactly params text args′ names′ o′ → Alike o o′
   both (Ok xs) (Ok ys) h g = same-answer params text r xs ys (h .0) (g .0)
-  both (Ok xs) (Err e) h g = let s = says-moved params text r (e .reason) (e .place) g in h .1 (s .0) (s .1) (s .2)
-  both (Err e) (Ok ys) h g = let s = says-moved params text (back-again r) (e .reason) (e .place) h in g .1 (s .0) (s .1) (s .2)
+  both (Ok xs) (Err e) h g = let s = says-moved params text r (e .reason) (e .place) (g .so) in h .1 (s .0) (s .1) (s .2)
+  both (Err e) (Ok ys) h g = let s = says-moved params text (back-again r) (e .reason) (e .place) (h .so) in g .1 (s .0) (s .1) (s .2)
   both (Err e) (Err f) h g = tt
 
   pub alike : Alike (resolves params text args names) (resolves params text args′ names′)

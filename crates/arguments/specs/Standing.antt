@@ -1,8 +1,10 @@
 -- Where arguments stand, and why a call is refused, in the subject's words. Assumes nothing.
 use mathlib.Core.Path.{_≡_}
-use mathlib.Core.Bool.{true, false, not}
+use mathlib.Core.Bool.{true, false, cond, not}
 use mathlib.Core.List.{List, [], map}
-use Prim.Native.Nat.{ℕ, _+_, _<_}
+use mathlib.Core.Logic.{_⊎_}
+use Prim.Native.Nat.{ℕ, _+_, _≤_, _<_}
+use lib.Dec.{eqb}
 use lib.ListN.{length, getD}
 use Rattle.std.specs.Orderings.{When}
 use Rattle.std.specs.Results.{Cases}
@@ -10,6 +12,8 @@ use Rattle.std.specs.Text.{lower}
 use Rattle.std.specs.declared.option.Option.{Option}
 use Rattle.std.specs.declared.option.Option.the-variants.{Some, None}
 use Rattle.terms.specs.Limits.{most-arguments}
+use Rattle.terms.specs.Refusals.{number}
+use Rattle.terms.specs.declared.Refusal.{Refusal}
 use Rattle.terms.specs.declared.Reason.{Reason}
 use Rattle.terms.specs.declared.Reason.the-variants.{MalformedCall, PositionalAfterNamed, TooManyPositional, UnknownParameter, ParameterGivenTwice, MissingParameter}
 use Rattle.arguments.specs.declared.written.Argument.{Argument}
@@ -62,8 +66,21 @@ pub data Says (params : List (List ℕ)) (text : List ℕ) (args : List Argument
   twice : (p j k : ℕ) → j < p → Place params (spell text names) j k → Place params (spell text names) p k → Says params text args names ParameterGivenTwice p
   missing : (p : ℕ) → p < length names → ((i : ℕ) → Place params (spell text names) i p → ⊥) → Says params text args names MissingParameter p
 
--- accepted exactly where no refusal would be true, and then every argument stands where it belongs; a refusal is true
+-- refusals go by their number, but 25 and 26 argument by argument
+abbrev pub rank : Reason → ℕ
+rank r = cond (eqb (number r) (number ParameterGivenTwice)) (number UnknownParameter) (number r)
+
+-- a refusal comes before another, or is at no later place
+abbrev pub Leads : Reason → ℕ → Reason → ℕ → Type 0
+Leads r p q k = (rank r < rank q) ⊎ ((rank r ≡ rank q) × (p ≤ k))
+
+-- a refusal is true, and leads all that are true
+pub record First-true (params : List (List ℕ)) (text : List ℕ) (args : List Argument) (names : List (Option ArgumentName)) (e : Refusal) : Type 0 where
+  pub so : Says params text args names (e .reason) (e .place)
+  pub leads : (q : Reason) (k : ℕ) → Says params text args names q k → Leads (e .reason) (e .place) q k
+
+-- accepted exactly where no refusal would be true, and then every argument stands where it belongs; else refused by the first that is true
 abbrev pub Exactly : List (List ℕ) → List ℕ → List Argument → List (Option ArgumentName) → Outcome → Type 0
 Exactly params text args names o = Cases o
     (λ answer. Stands params (spell text names) args answer × ((r : Reason) (p : ℕ) → Says params text args names r p → ⊥))
-    (λ e. Says params text args names (e .reason) (e .place))
+    (First-true params text args names)
