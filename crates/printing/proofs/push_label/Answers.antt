@@ -5,7 +5,7 @@ use Rattle.std.proofs.shelf.Results.{made-weaker}
 use Rattle.std.specs.Of.String.{string-bytes}
 use Rattle.std.specs.Vec.{made}
 use Rattle.printing.specs.Printing.{labelText}
-use Rattle.printing.proofs.Backs.{label-reads}
+use Rattle.printing.proofs.ReadBack.{label-reads}
 use Rattle.printing.proofs.Texts.{as-word, as-quoted}
 use Rattle.printing.proofs.push_label.Needs as need
 

@@ -5,7 +5,7 @@ use Rattle.std.proofs.shelf.Results.{made-weaker}
 use Rattle.std.specs.Of.String.{string-bytes}
 use Rattle.std.specs.Vec.{made}
 use Rattle.printing.specs.Printing.{quotedText}
-use Rattle.printing.proofs.Backs.{quoted-reads}
+use Rattle.printing.proofs.ReadBack.{quoted-reads}
 use Rattle.printing.proofs.Texts.{quoted-more, quoted-end}
 use Rattle.printing.proofs.push_quoted.Needs as need
 
