@@ -18,12 +18,12 @@ use Rattle.std.specs.Written.{decimal}
 use Rattle.std.specs.shelf.Lists.{joined}
 use Rattle.std.specs.shelf.Maps.{nth}
 use Rattle.std.specs.declared.option.Option.{Option}
-use Rattle.std.specs.declared.option.Option.the-variants.{Some, None}
+use Rattle.std.specs.declared.option.Option.the-variants.{Some}
 use Rattle.std.specs.declared.result.Result.{Result}
 use Rattle.std.specs.declared.result.Result.the-variants.{Ok, Err}
 use Rattle.arguments.specs.View.{bytesOf}
 use Rattle.arguments.specs.declared.written.Argument.{Argument}
-use Rattle.printing.specs.Printing.{wordByte, wordBytes, hexDigit, hexed, escaped, quotedText, labelText, under, piece, pieces, placedText}
+use Rattle.printing.specs.Printing.{wordByte, wordBytes, begun, isWord, hexDigit, hexed, escaped, quotedText, labelText, under, piece, pieces, placedText}
 
 -- what is left loses its first piece as the text gains it
 more : (s t x rest left whole : List ℕ) → left ≡ x ++ rest → t ≡ s ++ x → s ++ left ≡ whole → t ++ rest ≡ whole
@@ -57,6 +57,13 @@ word-more label i start s t l p h w =
 
 pub word-end : (label : List ℕ) (i : ℕ) (start s : List ℕ) → length label ≤ i → Word-left label i start s → wordBytes label ≡ true → s ≡ start ++ label
 word-end label i start s l h w = at-end s (drop i label) (start ++ label) (drop-all i label l) (h w .1)
+
+-- a label as a word, and in quotes
+pub as-word : (label before after : List ℕ) → true ≡ isWord label → (wordBytes label ≡ true → after ≡ before ++ label) → after ≡ before ++ labelText label
+as-word label before after w h = h (and-parts (begun label) (wordBytes label) (sym w) .1) ∙ ap (λ (x : Bool). before ++ cond x label (quotedText label)) w
+
+pub as-quoted : (label before after : List ℕ) → false ≡ isWord label → after ≡ before ++ quotedText label → after ≡ before ++ labelText label
+as-quoted label before after w h = h ∙ ap (λ (x : Bool). before ++ cond x label (quotedText label)) w
 
 -- a byte by its number
 hex-small : (v : ℕ) → hexDigit v < 128

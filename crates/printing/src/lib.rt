@@ -9,7 +9,9 @@ ghost use Rattle.std.specs.Of.String.{string-bytes};
 ghost use Rattle.std.specs.Vec.{made};
 ghost use Rattle.std.specs.shelf.Maps.{nth};
 ghost use Rattle.printing.specs.Printing.{wordByte, wordBytes, isWord, hexDigit, hexed, escaped, quotedText, labelText, under, piece, placedText};
+ghost use Rattle.printing.specs.Reading.{labelToken, Reads};
 ghost use Rattle.arguments.specs.View.{bytesOf};
+ghost use Rattle.script.specs.Tokens.{quoted};
 use arguments::Argument;
 use std::alloc::AllocError;
 use std::alloc::Global;
@@ -79,9 +81,10 @@ fn push_escaped(out: &mut String, byte: u8) -> Result<(), AllocError>
     }
 }
 
-// A label in quotes.
+// A label in quotes, which reads back as that label.
 pub fn push_quoted(out: &mut String, label: &[u8]) -> Result<(), AllocError>
-    ensures { λ r. ⌜ made r (λ _. string-bytes (now (out .exit)) ≡ string-bytes (now (out .entry)) ++ quotedText (now (label .entry))) ⌝ }
+    ensures value { λ r. ⌜ made r (λ _. string-bytes (now (out .exit)) ≡ string-bytes (now (out .entry)) ++ quotedText (now (label .entry))) ⌝ }
+    ensures reads { λ r. ⌜ made r (λ _. Reads (string-bytes (now (out .entry))) (string-bytes (now (out .exit))) (quoted (now (label .entry)))) ⌝ }
 {
     push_ascii(out, b'"')?;
     for byte in label {
@@ -100,9 +103,10 @@ fn push_word(out: &mut String, label: &[u8]) -> Result<(), AllocError>
     Ok(())
 }
 
-// A label as a script writes it: a word, or in quotes.
+// A label as a script writes it, a word or in quotes, which reads back as that label.
 pub fn push_label(out: &mut String, label: &[u8]) -> Result<(), AllocError>
-    ensures { λ r. ⌜ made r (λ _. string-bytes (now (out .exit)) ≡ string-bytes (now (out .entry)) ++ labelText (now (label .entry))) ⌝ }
+    ensures value { λ r. ⌜ made r (λ _. string-bytes (now (out .exit)) ≡ string-bytes (now (out .entry)) ++ labelText (now (label .entry))) ⌝ }
+    ensures reads { λ r. ⌜ made r (λ _. Reads (string-bytes (now (out .entry))) (string-bytes (now (out .exit))) (labelToken (now (label .entry)))) ⌝ }
 {
     if is_word(label) {
         push_word(out, label)

@@ -10,4 +10,4 @@ loop-k-again c = pieces-more (bytesOf (c .args .params .now)) (c .args .args .no
 pub returns : need.returns
 returns c =
     placed-end (c .args .name .now) (bytesOf (c .args .params .now)) (c .args .args .now) (c .loop-k .k) (string-bytes (c .new-out .result)) (string-bytes (c .push-label .last .out)) (string-bytes (c .push-ascii .last .out)) (string-bytes (c .loop-k .out)) (string-bytes (c .push-ascii-2 .last .out))
-    (c .loop-k-test .left) (c .new-out .ensures .bytes) (c .in-Continue-push-label .ensures tt) (c .in-Continue-push-ascii .ensures tt (omega arith)) (c .loop-k .inv) (c .in-Continue-push-ascii-2 .ensures tt (omega arith))
+    (c .loop-k-test .left) (c .new-out .ensures .bytes) (c .in-Continue-push-label .ensures tt .value) (c .in-Continue-push-ascii .ensures tt (omega arith)) (c .loop-k .inv) (c .in-Continue-push-ascii-2 .ensures tt (omega arith))
