@@ -4,6 +4,7 @@ pub mod Fitting
 pub mod Spelling
 pub mod Exact
 pub mod Orderly
+pub mod Only
 pub mod Turns
 pub mod Assigning
 pub mod Whole

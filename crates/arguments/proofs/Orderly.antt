@@ -134,7 +134,7 @@ module _ (params : List (List ℕ)) (text : List ℕ) {args args′ : List Argum
       both-at (r .from j) (r .from i) k (λ e. let a = r .forth j lj in let b = r .forth i li in let d = ap (r .to) e in omega arith) (back-place j k g) (back-place i k h)
   says-moved q p (missing k l h) = (MissingParameter, k, missing k (omega (arith, r .as-many-names)) (λ i g. h (r .to i) (moves params text r i k g)))
 
-  same-answer : (xs ys : List Argument) → Stands params (spell text names) args xs → Stands params (spell text names′) args′ ys → xs ≡ ys
+  pub same-answer : (xs ys : List Argument) → Stands params (spell text names) args xs → Stands params (spell text names′) args′ ys → xs ≡ ys
   same-answer xs ys s t = ext-getD blank xs ys (s .count ∙ sym (r .as-many) ∙ sym (t .count))
       (λ k l.
       let a = s .other k l in

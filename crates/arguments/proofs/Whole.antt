@@ -22,6 +22,7 @@ use Rattle.arguments.specs.Standing.{Exactly}
 use Rattle.arguments.specs.View.{spell}
 use Rattle.arguments.proofs.Assigning.{too-many, clashes, gathers}
 use Rattle.arguments.proofs.Exact.{exact, well-formed}
+use Rattle.arguments.proofs.Only.{only}
 use Rattle.arguments.proofs.Orderly.{alike}
 use Rattle.arguments.proofs.Spelling.{as-many, any-spelled, late-spelled, count-spelled}
 
@@ -48,6 +49,7 @@ module _ (params : List (List ℕ)) (text : List ℕ) (args : List Argument) (na
   lawful o e = record {
     value = e;
     stands = subst (Exactly params text args names) (sym e) (exact params text args names);
+    only = λ q h. only params text args names (resolves params text args names) q (exact params text args names) h ∙ sym e;
     alike = λ args′ names′ r. subst (λ (x : Outcome). Alike x (resolves params text args′ names′)) (sym e) (alike params text r);
   }
 

@@ -9,8 +9,10 @@ use Rattle.arguments.specs.Orders.{Orderless}
 use Rattle.arguments.specs.Places.{Outcome, resolves}
 use Rattle.arguments.specs.Standing.{Exactly}
 
--- the outcome is the definition's; every argument stands where it belongs, or the refusal is true; another order of the named ones changes nothing
+-- the outcome is the definition's; every argument stands where it belongs, or the refusal is the first that is true, and no other outcome is so;
+-- another order of the named arguments changes nothing
 pub record Resolution (params : List (List ℕ)) (text : List ℕ) (args : List Argument) (names : List (Option ArgumentName)) (o : Outcome) : Type 0 where
   pub value : o ≡ resolves params text args names
   pub stands : Exactly params text args names o
+  pub only : (q : Outcome) → Exactly params text args names q → q ≡ o
   pub alike : Orderless params text args names o

@@ -34,6 +34,12 @@ pub enum Reason {
     MissingParameter = 27,
 }
 
+fn code(reason: Reason) -> u8
+    ensures { λ r. ⌜ r ≡ number reason ⌝ }
+{
+    reason as u8
+}
+
 // What part of the work refuses.
 #[derive(Clone, Copy)]
 pub enum Layer {
@@ -59,10 +65,12 @@ pub struct Refusal {
 }
 
 impl Refusal {
+    // The number tells the reason: no other has it.
     pub fn number(&self) -> u8
-        ensures { λ r. ⌜ r ≡ number (now (self .entry) .reason) ⌝ }
+        ensures value { λ r. ⌜ r ≡ number (now (self .entry) .reason) ⌝ }
+        ensures only { λ r. ⌜ ((q : Reason) → number q ≡ r → q ≡ now (self .entry) .reason) ⌝ }
     {
-        self.reason as u8
+        code(self.reason)
     }
 
     pub fn layer(&self) -> Layer
