@@ -1,5 +1,4 @@
 // Reads a script from standard input, and prints what comes of each line.
-use printing::placed_text;
 use script::ArgumentsLine;
 use script::FaultDisplay;
 use script::FunctionLine;
@@ -69,19 +68,17 @@ fn resolve(
     line: &ArgumentsLine,
 ) -> Result<(), AnyError> {
     let heap = rt.alloc();
-    let name = part(text, line.name.span);
-    let params = match session.newest(name) {
-        Some(function) => function.param_names(heap)?,
-        None => Vec::new(heap),
-    };
-    match session.resolve(heap, text, line) {
-        Ok(resolved) => {
-            let placed = placed_text(heap, name, params.as_slice(), resolved.as_slice())?;
-            println!(rt, "arguments {placed}")?;
+    match session.answer(heap, text, line) {
+        Ok(answer) => {
+            println!(rt, "arguments {answer}")?;
             Ok(())
         }
         Err(failure) => {
             let refusal = refusal_of(failure)?;
+            let params = match session.newest(part(text, line.name.span)) {
+                Some(function) => function.param_names(heap)?,
+                None => Vec::new(heap),
+            };
             let words = arguments_words(heap, &refusal, text, line, params.as_slice())?;
             print_refusal(rt, number, &refusal, words.as_str())
         }

@@ -1,2 +1,3 @@
 pub mod Parts
 pub mod Newest
+pub mod Answered

@@ -5,10 +5,13 @@ use mathlib.Core.List.{List, [], _∷_, _++_, map}
 use Prim.Native.Nat.{ℕ, _+_}
 use lib.Dec.{ltb}
 use lib.ListN.{length}
+use Rattle.std.specs.Of.String.{string-bytes}
 use Rattle.std.specs.Of.Vec.{vec-items}
 use Rattle.std.specs.Options.{Cases}
 use Rattle.std.specs.declared.option.Option.{Option}
 use Rattle.std.specs.declared.option.Option.the-variants.{Some, None}
+use Rattle.std.specs.declared.alloc.Global.{Global}
+use Rattle.std.specs.declared.string.String.{String}
 use Rattle.std.specs.declared.result.Result.{Result}
 use Rattle.std.specs.declared.result.Result.the-variants.{Ok, Err}
 use Rattle.std.specs.shelf.Text.{sameBytes}
@@ -16,13 +19,11 @@ use Rattle.terms.specs.Refusals.{refusal}
 use Rattle.terms.specs.Limits.{longest-label, most-parameters}
 use Rattle.terms.specs.declared.Reason.the-variants.{LabelTooLong, BadFunction, UnknownFunction}
 use Rattle.terms.specs.declared.Refusal.{Refusal}
-use Rattle.arguments.specs.declared.resolved.Resolved.{Resolved}
 use Rattle.arguments.specs.declared.written.Argument.{Argument}
-use Rattle.arguments.specs.declared.written.ArgumentName.{ArgumentName}
-use Rattle.arguments.specs.Answers.{listed}
 use Rattle.arguments.specs.First.{or-else, when}
 use Rattle.arguments.specs.Places.{Outcome}
 use Rattle.arguments.specs.Resolution.{Resolution}
+use Rattle.printing.specs.Printing.{placedText}
 use Rattle.script.specs.declared.items.Text.{Text}
 use Rattle.script.specs.declared.lines.ArgumentsLine.{ArgumentsLine}
 use Rattle.script.specs.declared.lines.FunctionLine.{FunctionLine}
@@ -77,12 +78,16 @@ unfoldable pub newest : List ℕ → List Known → Option Known
 newest name [] = None
 newest name (f ∷ fs) = or-else (newest name fs) (when (sameBytes (f .name) name) f)
 
--- what the arguments of a line come to, where a function has the name: 20 where none has it
-abbrev pub Comes : List Known → List ℕ → ArgumentsLine → Outcome → Type 0
-Comes fs text a o = Cases (newest (textBytes text (a .name)) fs) (o ≡ Err (refusal UnknownFunction 0)) (λ f. Resolution (f .params) text (vec-items (a .args)) (vec-items (a .names)) o)
+-- what the arguments of a line come to for a function
+abbrev pub Comes : List ℕ → ArgumentsLine → Known → Outcome → Type 0
+Comes text a f o = Resolution (f .params) text (vec-items (a .args)) (vec-items (a .names)) o
 
--- the arguments by place, or the refusal, unless memory fails
-abbrev pub Settles : List Known → List ℕ → ArgumentsLine → Result Resolved Failure → Type 0
-Settles fs text a (Ok r) = Comes fs text a (Ok (listed r))
-Settles fs text a (Err (Refused e)) = Comes fs text a (Err e)
-Settles fs text a (Err Memory) = Unit {0}
+-- the text of the arguments by place, each under its parameter
+abbrev pub Shows : List ℕ → ArgumentsLine → Known → List ℕ → Type 0
+Shows text a f s = (answer : List Argument) × Comes text a f (Ok answer) × (s ≡ placedText (textBytes text (a .name)) (f .params) answer)
+
+-- the newest function of the name and the text of the answer, or the refusal: 20 where no function has the name
+abbrev pub Answers : List Known → List ℕ → ArgumentsLine → Result (String Global) Failure → Type 0
+Answers fs text a (Ok s) = Cases (newest (textBytes text (a .name)) fs) ⊥ (λ f. Shows text a f (string-bytes s))
+Answers fs text a (Err (Refused e)) = Cases (newest (textBytes text (a .name)) fs) (e ≡ refusal UnknownFunction 0) (λ f. Comes text a f (Err e))
+Answers fs text a (Err Memory) = Unit {0}

@@ -7,15 +7,15 @@ ghost use Rattle.std.specs.Vec.{made};
 ghost use Rattle.std.specs.shelf.Text.{sameBytes};
 ghost use Rattle.arguments.specs.View.{bytesOf};
 ghost use Rattle.script.specs.Seen.{bytes};
-ghost use Rattle.session.specs.Known.{known, functions, textBytes, writes, long, any-long, unfit, Adds, newest, Settles};
+ghost use Rattle.session.specs.Known.{known, functions, textBytes, writes, long, any-long, unfit, Adds, newest, Answers};
 use crate::failure::Failure;
 use crate::failure::FailureFromAlloc;
 use crate::failure::FailureFromRefusal;
 use crate::failure::FailureFromUnplaced;
 use crate::function::Function;
 use crate::function::Session;
-use arguments::Resolved;
 use arguments::resolve_function_arguments;
+use printing::placed_text;
 use script::ArgumentsLine;
 use script::FunctionLine;
 use script::Span;
@@ -146,16 +146,12 @@ impl Session {
         found
     }
 
-    // The arguments of a line by place, for the function that it names.
-    pub fn resolve(
-        &self,
-        heap: Global,
-        text: &[u8],
-        line: &ArgumentsLine,
-    ) -> Result<Resolved, Failure>
-        ensures { λ r. ⌜ Settles (functions (now (self .entry))) (now (text .entry)) (now (line .entry)) r ⌝ }
+    // The arguments of a line as text, each under its parameter, for the function that it names.
+    pub fn answer(&self, heap: Global, text: &[u8], line: &ArgumentsLine) -> Result<String, Failure>
+        ensures { λ r. ⌜ Answers (functions (now (self .entry))) (now (text .entry)) (now (line .entry)) r ⌝ }
     {
-        let Some(function) = self.newest(part(text, line.name.span)) else {
+        let name = part(text, line.name.span);
+        let Some(function) = self.newest(name) else {
             return Err(Failure::Refused(Refusal {
                 reason: Reason::UnknownFunction,
                 place: 0,
@@ -168,6 +164,7 @@ impl Session {
             line.names.as_slice(),
             text,
         )?;
-        Ok(resolved)
+        let answer = placed_text(heap, name, params.as_slice(), resolved.as_slice())?;
+        Ok(answer)
     }
 }
