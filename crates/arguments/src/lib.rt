@@ -90,13 +90,16 @@ fn validate_argument_order(arg_names: &[Option<ArgumentName>]) -> Result<(), Ref
 {
     let mut seen_named = false;
     for (i, arg_name) in arg_names.iter().enumerate() {
-        if arg_name.is_some() {
-            seen_named = true;
-        } else if seen_named {
-            return Err(Refusal {
-                reason: Reason::PositionalAfterNamed,
-                place: i,
-            });
+        match arg_name {
+            Some(_) => seen_named = true,
+            None => {
+                if seen_named {
+                    return Err(Refusal {
+                        reason: Reason::PositionalAfterNamed,
+                        place: i,
+                    });
+                }
+            }
         }
     }
     Ok(())
