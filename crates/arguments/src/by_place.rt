@@ -21,7 +21,7 @@ const NO_ARGUMENT: Argument = Argument {
 impl Resolved {
     // The arguments in the order of their places.
     pub fn as_slice(&self) -> &[Argument]
-        ensures { λ r. ⌜ now r ≡ listed (now (self .entry)) ⌝ }
+        ensures value { λ r. ⌜ now r ≡ listed (now (self .entry)) ⌝ }
     {
         &self.items[0..self.count]
     }
