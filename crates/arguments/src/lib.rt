@@ -1,4 +1,6 @@
 // Names to places: puts each argument of a call under its parameter.
+#![tactic(auto)]
+
 ghost use Rattle.std.specs.Prelude.{◌≡◌, ℕ, ◌<◌, ◌≤◌, false, not, length, IfOk, None, slice_index_or};
 ghost use Rattle.std.specs.List.{AllByRecursion as All};
 ghost use Rattle.terms.specs.Refusals.{refusal_of};

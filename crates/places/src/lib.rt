@@ -1,4 +1,6 @@
 // What one place of the lent memory holds.
+#![tactic(auto)]
+
 mod entry;
 mod finding;
 mod function;

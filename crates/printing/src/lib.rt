@@ -1,4 +1,6 @@
 // Labels and arguments as they are printed.
+#![tactic(auto)]
+
 ghost use Rattle.std.specs.Prelude.{◌≡◌, ◌<◌, true, [], ◌∷◌, ◌++◌, IfOk, if◌then◌else◌, string_bytes, codes, OnOk, nat_lt};
 ghost use Rattle.std.specs.List.{slice_get};
 ghost use Rattle.printing.specs.Printing.{word_byte, word_bytes, is_word, hex_digit, hexed, escaped, quoted_text, label_text, under, piece, placed_text};

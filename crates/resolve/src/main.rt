@@ -1,4 +1,6 @@
 // Reads a script from standard input, and prints what comes of each line.
+#![tactic(auto)]
+
 use anyhow::anyhow;
 use script::{ArgumentsLine, FunctionLine, Line, ReadLine, read_line};
 use session::{Failure, Session, part};

@@ -1,4 +1,6 @@
 // Reads a line of a script.
+#![tactic(auto)]
+
 mod fault;
 mod items;
 mod lines;

@@ -1,4 +1,6 @@
 // The functions that were written so far, and what comes of the arguments written for one.
+#![tactic(auto)]
+
 mod failure;
 mod function;
 mod steps;

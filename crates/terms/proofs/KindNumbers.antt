@@ -1,5 +1,5 @@
 -- A kind's number tells the kind.
-use Rattle.std.proofs.Common.{◌≡◌, ℕ, List as Row, [], ◌∷◌, Some, None, Option, sym, refl, ap, ◌∙◌}
+use Rattle.std.proofs.Common.{◌≡◌, List as Row, [], ◌∷◌, Some, sym, refl, ap, ◌∙◌}
 use Rattle.std.specs.List.{slice_get}
 use Rattle.terms.specs.declared.kind.Kind.{Kind}
 use Rattle.terms.specs.declared.kind.Kind.TheVariants.{Null, Boolean, Int8, Int16, Int32, Int64, UInt8, UInt16, UInt32, UInt64, Float16, Float32, Float64, Decimal128, Date32, Date64, Timestamp, Interval, Utf8, LargeUtf8, Utf8View, Binary, LargeBinary, BinaryView, List, LargeList, ListView, LargeListView, FixedSizeList, Dictionary}

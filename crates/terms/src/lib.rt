@@ -1,4 +1,6 @@
 // The numbered words of the subject: why something is refused, in which layer, the kinds of types, and the limits.
+#![tactic(auto)]
+
 ghost use Rattle.std.specs.Prelude.{◌≡◌};
 ghost use Rattle.terms.specs.Refusals.{number, layer, layer_number};
 

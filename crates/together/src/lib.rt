@@ -1,4 +1,6 @@
 // Types that are added together or not at all: what a trial does, seen by a caller that knows only what the pool promises.
+#![tactic(auto)]
+
 ghost use Rattle.std.specs.Prelude.{◌⊎◌, IfErr, MatchResult};
 ghost use Rattle.together.specs.Together.{Kept, Dropped, Untried, Room};
 

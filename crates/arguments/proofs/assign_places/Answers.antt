@@ -6,7 +6,7 @@ use Rattle.arguments.proofs.Spelling.{place_spelled}
 use Rattle.arguments.proofs.assign_places.Goals as goal
 
 pub loop-i-init : goal.loop-i-init
-loop-i-init c = none_assigned (bytes_of c.args.param-names.now) (spell c.args.text.now c.args.arg-names.now) _ refl
+loop-i-init c = none_assigned (bytes_of c.args.param_names.now) (spell c.args.text.now c.args.arg-names.now) _ refl
 
 pub returns-in-err-places : goal.returns-in-err-places
 returns-in-err-places c =
@@ -23,7 +23,7 @@ returns-in-err-places c =
 
 pub loop-i-preserved : goal.loop-i-preserved
 loop-i-preserved c =
-    let params = bytes_of c.args.param-names.now in
+    let params = bytes_of c.args.param_names.now in
     let names = c.args.arg-names.now in
     let i = c.loop-i.i in
     assigned_more params (spell c.args.text.now names) i (length names) c.loop-i-test.true c.loop-i.invariant.0 c.loop-i.places c.loop-i.invariant.1 _

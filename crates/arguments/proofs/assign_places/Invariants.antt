@@ -7,5 +7,5 @@ use Rattle.arguments.proofs.assign_places.Given as goal
 
 abbrev pub invariant-loop-i : goal.invariant-loop-i
 invariant-loop-i l =
-    (first (clash (bytes_of l.param-names) (spell l.text l.arg-names)) l.i ≡ None)
-    × Assigned (bytes_of l.param-names) (spell l.text l.arg-names) l.i l.places
+    (first (clash (bytes_of l.param_names) (spell l.text l.arg_names)) l.i ≡ None)
+    × Assigned (bytes_of l.param_names) (spell l.text l.arg_names) l.i l.places

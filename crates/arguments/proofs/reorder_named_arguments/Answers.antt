@@ -27,5 +27,5 @@ returns-in-err-places c =
 
 pub returns : goal.returns
 returns c =
-    gathered_so (bytes_of c.args.param-names.now) c.args.text.now c.args.args.now c.args.arg-names.now c.requires (omega (arith, many c.args.param-names.now, c.positional-count.ensures))
+    gathered_so (bytes_of c.args.param_names.now) c.args.text.now c.args.args.now c.args.arg_names.now c.requires (omega (arith, many c.args.param_names.now, c.positional_count.ensures))
     c.in-ok-places.ensures.refused c.in-ok-places.places c.in-ok-places.ensures.places _ c.gather.ensures

@@ -21,4 +21,4 @@ returns-in-err-validate-argument-order c =
 
 pub returns : goal.returns
 returns c =
-    reordered_so (bytes_of c.args.param-names.now) c.args.text.now c.args.args.now c.args.arg-names.now c.in-ok-validate-arguments.ensures c.if-not-has-name.ensures c.in-ok-validate-argument-order.ensures _ c.reorder-named-arguments.ensures
+    reordered_so (bytes_of c.args.param_names.now) c.args.text.now c.args.args.now c.args.arg_names.now c.in_ok-validate_arguments.ensures c.if-not-has-name.ensures c.in-ok-validate-argument-order.ensures _ c.reorder-named-arguments.ensures

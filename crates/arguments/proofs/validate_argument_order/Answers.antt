@@ -2,7 +2,7 @@ use Rattle.std.proofs.Common.{length, is_some, sym, refl, ap, ◌∙◌}
 use Rattle.arguments.specs.First.{first}
 use Rattle.arguments.proofs.Turns.{at_named, at_unnamed, at_late}
 use Rattle.arguments.proofs.validate_argument_order.Goals as goal
-use Rattle.arguments.proofs.validate_argument_order.Goals.{in-Some, in-None+else-seen-named}
+use Rattle.arguments.proofs.validate_argument_order.Goals.{in-Some, in-None+else-seen_named}
 
 pub loop-i-init : goal.loop-i-init
 unfolding first
@@ -13,7 +13,7 @@ returns-then-seen-named c =
     at_late c.args.arg-names.now c.loop-i.i c.loop-i.invariant.0 c.loop-i.seen-named c.loop-i.invariant.1 (length c.args.arg-names.now) c.loop-i-test.true (sym (ap is_some c.in-None.is)) c.if-seen-named.true
 
 pub loop-i-preserved : goal.loop-i-preserved
-loop-i-preserved c = elim c.match-arg-name.branch [
+loop-i-preserved c = elim c.match-arg_name.branch [
   | in-Some w ↦ let t = at_named c.args.arg-names.now c.loop-i.i c.loop-i.invariant.0 c.loop-i.seen-named c.loop-i.invariant.1 (sym (ap is_some w.in-Some.is)) in (t.0, w.seen-named-is ∙ t.1)
-  | in-None+else-seen-named w ↦ let t = at_unnamed c.args.arg-names.now c.loop-i.i c.loop-i.invariant.0 c.loop-i.seen-named c.loop-i.invariant.1 (sym (ap is_some w.in-None.is)) w.if-seen-named.false in (t.0, w.seen-named-is ∙ t.1)
+  | in-None+else-seen_named w ↦ let t = at_unnamed c.args.arg-names.now c.loop-i.i c.loop-i.invariant.0 c.loop-i.seen-named c.loop-i.invariant.1 (sym (ap is_some w.in-None.is)) w.if-seen-named.false in (t.0, w.seen-named-is ∙ t.1)
 ]

@@ -5,4 +5,4 @@ use Rattle.arguments.specs.View.{bytes_of}
 use Rattle.arguments.proofs.by_name.parameter_index.Given as goal
 
 abbrev pub invariant-loop-k : goal.invariant-loop-k
-invariant-loop-k l = first_below (λ k. matches (record { bytes = l.name; quoted = l.is-quoted }) (get_or (bytes_of l.param-names) k [])) l.k ≡ None
+invariant-loop-k l = first_below (λ k. matches (record { bytes = l.name; quoted = l.is_quoted }) (get_or (bytes_of l.param_names) k [])) l.k ≡ None

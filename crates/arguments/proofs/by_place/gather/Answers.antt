@@ -14,7 +14,7 @@ returns-in-err-items c =
 
 pub loop-k-preserved : goal.loop-k-preserved
 loop-k-preserved c =
-    gathered_more c.args.places.now c.args.args.now c.loop-k.items c.loop-k.k _ c.loop-k-test.true c.requires.few c.loop-k.invariant.0 c.loop-k.invariant.1 c.loop-k.invariant.2 c.in-ok-items.ensures
+    gathered_more c.args.places.now c.args.args.now c.loop-k.items c.loop-k.k _ c.loop-k-test.true c.requires.few c.loop-k.invariant.0 c.loop-k.invariant.1 c.loop-k.invariant.2 c.in_ok-items.ensures
 
 pub returns : goal.returns
 returns c = gathered_all c.args.places.now c.args.args.now c.loop-k.items c.loop-k.k (omega arith) (omega (arith, c.requires.few, c.loop-k.invariant.1)) c.loop-k.invariant.0 c.loop-k.invariant.2
