@@ -6,25 +6,25 @@ use Rattle.arguments.proofs.Spelling.{place_spelled}
 use Rattle.arguments.proofs.assign_places.Goals as goal
 
 pub loop-i-init : goal.loop-i-init
-loop-i-init c = none_assigned (bytes_of c.args.param_names.now) (spell c.args.text.now c.args.arg-names.now) _ refl
+loop-i-init c = none_assigned (bytes_of c.args.param_names.now) (spell c.args.text.now c.args.arg_names.now) _ refl
 
-pub returns-in-err-places : goal.returns-in-err-places
-returns-in-err-places c =
-    let params = bytes_of c.args.param-names.now in
-    let names = c.args.arg-names.now in
+pub returns-in_err-places : goal.returns-in_err-places
+returns-in_err-places c =
+    let params = bytes_of c.args.param_names.now in
+    let names = c.args.arg_names.now in
     let i = c.loop-i.i in
     let p = err_from_is_err_and c.from-residual.result c.from-residual.ensures.1 in
     rw (p.1, p.2) (record {
       refused =
           not_claimed params (spell c.args.text.now names) i (length names) c.loop-i-test.true c.loop-i.invariant.0 c.loop-i.places c.loop-i.invariant.1 _
-          (place_spelled c.args.text.now names params i) _ c.in-err-places.ensures;
+          (place_spelled c.args.text.now names params i) _ c.in_err-places.ensures;
       places = tt;
     })
 
 pub loop-i-preserved : goal.loop-i-preserved
 loop-i-preserved c =
     let params = bytes_of c.args.param_names.now in
-    let names = c.args.arg-names.now in
+    let names = c.args.arg_names.now in
     let i = c.loop-i.i in
     assigned_more params (spell c.args.text.now names) i (length names) c.loop-i-test.true c.loop-i.invariant.0 c.loop-i.places c.loop-i.invariant.1 _
-    (place_spelled c.args.text.now names params i) c.requires.few _ c.in-ok-places.ensures
+    (place_spelled c.args.text.now names params i) c.requires.few _ c.in_ok-places.ensures

@@ -10,22 +10,22 @@ use Rattle.arguments.proofs.reorder_named_arguments.Goals as goal
 many : (ps : List (Bor (List ℕ))) → length (bytes_of ps) ≡ length ps
 many ps = length-map ps (λ (p : Bor (List ℕ)). p.now)
 
-pub returns-then-positional-count-param-names : goal.returns-then-positional-count-param-names
-returns-then-positional-count-param-names c =
-    crowded_so (bytes_of c.args.param-names.now) c.args.text.now c.args.args.now c.args.arg-names.now (omega (arith, many c.args.param-names.now, c.positional-count.ensures))
+pub returns-then-positional_count-param_names : goal.returns-then-positional_count-param_names
+returns-then-positional_count-param_names c =
+    crowded_so (bytes_of c.args.param_names.now) c.args.text.now c.args.args.now c.args.arg_names.now (omega (arith, many c.args.param_names.now, c.positional_count.ensures))
 
-pub assign-places-requires : goal.assign-places-requires
-assign-places-requires c =
-    let w = well_formed (bytes_of c.args.param-names.now) c.args.text.now c.args.args.now c.args.arg-names.now c.requires in
+pub assign_places-requires : goal.assign_places-requires
+assign_places-requires c =
+    let w = well_formed (bytes_of c.args.param_names.now) c.args.text.now c.args.args.now c.args.arg_names.now c.requires in
     record { few = omega (arith, w.0, w.1); within = w.2 }
 
-pub returns-in-err-places : goal.returns-in-err-places
-returns-in-err-places c =
+pub returns-in_err-places : goal.returns-in_err-places
+returns-in_err-places c =
     let p = err_from_is_err_and c.from-residual.result c.from-residual.ensures.1 in
     rw (p.1, p.2)
-    (clash_so (bytes_of c.args.param-names.now) c.args.text.now c.args.args.now c.args.arg-names.now (omega (arith, many c.args.param-names.now, c.positional-count.ensures)) _ c.in-err-places.ensures.refused)
+    (clash_so (bytes_of c.args.param_names.now) c.args.text.now c.args.args.now c.args.arg_names.now (omega (arith, many c.args.param_names.now, c.positional_count.ensures)) _ c.in_err-places.ensures.refused)
 
 pub returns : goal.returns
 returns c =
     gathered_so (bytes_of c.args.param_names.now) c.args.text.now c.args.args.now c.args.arg_names.now c.requires (omega (arith, many c.args.param_names.now, c.positional_count.ensures))
-    c.in-ok-places.ensures.refused c.in-ok-places.places c.in-ok-places.ensures.places _ c.gather.ensures
+    c.in_ok-places.ensures.refused c.in_ok-places.places c.in_ok-places.ensures.places _ c.gather.ensures

@@ -4,9 +4,9 @@ use Rattle.printing.proofs.Texts.{pieces_more, placed_end}
 use Rattle.printing.proofs.placed_text.Goals as goal
 
 pub loop-k-preserved : goal.loop-k-preserved
-loop-k-preserved c = pieces_more (bytes_of c.args.params.now) c.args.args.now c.loop-k.k _ (string_bytes c.loop-k.out) (string_bytes c.push-argument.new.out) _ c.loop-k-test.true c.in-ok-push-argument.ensures c.loop-k.invariant
+loop-k-preserved c = pieces_more (bytes_of c.args.params.now) c.args.args.now c.loop-k.k _ (string_bytes c.loop-k.out) (string_bytes c.push_argument.new.out) _ c.loop-k-test.true c.in_ok-push_argument.ensures c.loop-k.invariant
 
 pub returns : goal.returns
 returns c =
-    placed_end c.args.name.now (bytes_of c.args.params.now) c.args.args.now c.loop-k.k (string_bytes c.new-out.result) (string_bytes c.push-label.new.out) (string_bytes c.push-ascii.new.out) (string_bytes c.loop-k.out) (string_bytes c.push-ascii-2.new.out)
-    c.loop-k-test.false c.new-out.ensures.bytes c.in-ok-push-label.ensures.value (c.in-ok-push-ascii.ensures (omega arith)) c.loop-k.invariant (c.in-ok-push-ascii-2.ensures (omega arith))
+    placed_end c.args.name.now (bytes_of c.args.params.now) c.args.args.now c.loop-k.k (string_bytes c.new-out.result) (string_bytes c.push_label.new.out) (string_bytes c.push_ascii.new.out) (string_bytes c.loop-k.out) (string_bytes c.push_ascii-2.new.out)
+    c.loop-k-test.false c.new-out.ensures.bytes c.in_ok-push_label.ensures.value (c.in_ok-push_ascii.ensures (omega arith)) c.loop-k.invariant (c.in_ok-push_ascii-2.ensures (omega arith))

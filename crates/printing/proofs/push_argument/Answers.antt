@@ -5,5 +5,5 @@ use Rattle.printing.proofs.push_argument.Goals as goal
 
 pub returns : goal.returns
 returns c =
-    pushed c.push-str.result (string_bytes c.push-str.new.self) _ _ _ c.push-str.ensures.bytes
-    (piece_is (bytes_of c.args.params.now) c.args.k c.args.arg.now (string_bytes c.args.out.now) (string_bytes c.push-comma.new.out) (string_bytes c.push-under.new.out) c.as-str.result.now c.in-ok-push-comma.ensures c.in-ok-push-under.ensures (c.as-str.ensures.value ∙ c.in-ok-id.ensures.ok))
+    pushed c.push_str.result (string_bytes c.push_str.new.self) _ _ _ c.push_str.ensures.bytes
+    (piece_is (bytes_of c.args.params.now) c.args.k c.args.arg.now (string_bytes c.args.out.now) (string_bytes c.push_comma.new.out) (string_bytes c.push_under.new.out) c.as_str.result.now c.in_ok-push_comma.ensures c.in_ok-push_under.ensures (c.as_str.ensures.value ∙ c.in_ok-id.ensures.ok))

@@ -11,13 +11,13 @@ loop-r-preserved c =
     let rs = c.args.records.now in
     let i = c.loop-r.r-index in
     let e : slice_get rs i ≡ Some (get_or rs i blank) = slice_get-get_or rs i blank c.loop-r-test.true in
-    let a = c.in-ok-add-type.ensures in
-    let t = all_more rs (get_or rs i blank) c.in-ok-add-type.field-0 e c.loop-r.invariant.0 c.loop-r.invariant.1 a.added.refused a.added.done in
+    let a = c.in_ok-add_type.ensures in
+    let t = all_more rs (get_or rs i blank) c.in_ok-add_type.field-0 e c.loop-r.invariant.0 c.loop-r.invariant.1 a.added.refused a.added.done in
     (t.0, t.1, a.start ∙ c.loop-r.invariant.2, a.lent ∙ c.loop-r.invariant.3)
 
-pub returns-in-err-add-type : goal.returns-in-err-add-type
-returns-in-err-add-type c =
-    let p = err_from_is_err_and c.from-residual-in-err-add-type.result c.from-residual-in-err-add-type.ensures.1 in
+pub returns-in_err-add_type : goal.returns-in_err-add_type
+returns-in_err-add_type c =
+    let p = err_from_is_err_and c.from-residual-in_err-add_type.result c.from-residual-in_err-add_type.ensures.1 in
     rw (p.1, p.2) ?
 
 pub returns : goal.returns

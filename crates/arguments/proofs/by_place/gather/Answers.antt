@@ -7,10 +7,10 @@ use Rattle.arguments.proofs.by_place.gather.Goals as goal
 pub loop-k-init : goal.loop-k-init
 loop-k-init c = (first_zero _, refl, λ j l. absurd (omega arith))
 
-pub returns-in-err-items : goal.returns-in-err-items
-returns-in-err-items c =
+pub returns-in_err-items : goal.returns-in_err-items
+returns-in_err-items c =
     let p = err_from_is_err_and c.from-residual.result c.from-residual.ensures.1 in
-    rw (p.1, p.2) (missing c.args.places.now c.args.args.now c.loop-k.k _ c.loop-k-test.true c.loop-k.invariant.0 c.in-err-items.ensures)
+    rw (p.1, p.2) (missing c.args.places.now c.args.args.now c.loop-k.k _ c.loop-k-test.true c.loop-k.invariant.0 c.in_err-items.ensures)
 
 pub loop-k-preserved : goal.loop-k-preserved
 loop-k-preserved c =

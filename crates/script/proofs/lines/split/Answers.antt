@@ -5,8 +5,8 @@ use Rattle.script.proofs.lines.split.Goals as goal
 
 pub loop-i-preserved : goal.loop-i-preserved
 loop-i-preserved c = (
-  mapped_more argument c.args.written.now c.loop-i.i _ _ _ _ c.loop-i-test.true refl c.loop-i.invariant.0 c.in-ok-push.ensures.items,
-  mapped_more name_in c.args.written.now c.loop-i.i _ _ _ _ c.loop-i-test.true refl c.loop-i.invariant.1 c.in-ok-push-2.ensures.items,
+  mapped_more argument c.args.written.now c.loop-i.i _ _ _ _ c.loop-i-test.true refl c.loop-i.invariant.0 c.in_ok-push.ensures.items,
+  mapped_more name_in c.args.written.now c.loop-i.i _ _ _ _ c.loop-i-test.true refl c.loop-i.invariant.1 c.in_ok-push-2.ensures.items,
 )
 
 pub returns : goal.returns

@@ -6,34 +6,34 @@ use Rattle.script.specs.Lines.{Found, Unspelled}
 use Rattle.script.proofs.Answering.{answers_none, answers_stuck, unread, read}
 use Rattle.script.proofs.reads.read_line.Goals as goal
 
-pub line-of-requires : goal.line-of-requires
-line-of-requires c =
-    let t = c.in-ok-text.field-0 in
-    subst (λ l. AllByRecursion (Within (length l)) c.as-slice-2.result.now) (sym c.as-slice.ensures.value)
-    (subst (AllByRecursion (Within (length (vec_items t.text)))) (sym c.as-slice-2.ensures.value) c.in-ok-text.ensures.cases.within)
+pub line_of-requires : goal.line_of-requires
+line_of-requires c =
+    let t = c.in_ok-text.field-0 in
+    subst (λ l. AllByRecursion (Within (length l)) c.as_slice-2.result.now) (sym c.as_slice.ensures.value)
+    (subst (AllByRecursion (Within (length (vec_items t.text)))) (sym c.as_slice-2.ensures.value) c.in_ok-text.ensures.cases.within)
 
-pub returns-in-err-text : goal.returns-in-err-text
-returns-in-err-text c =
+pub returns-in_err-text : goal.returns-in_err-text
+returns-in_err-text c =
     let p = err_from_is_err_and c.from-residual.result c.from-residual.ensures.1 in
-    let h = c.in-err-text.ensures in
-    let told = answers_stuck c.args.line.now c.from-residual.result c.in-err-text.field-0.0 _ p.1 p.2 c.if-is-comment.ensures h.cases h.refused in
+    let h = c.in_err-text.ensures in
+    let told = answers_stuck c.args.line.now c.from-residual.result c.in_err-text.field-0.0 _ p.1 p.2 c.if-is_comment.ensures h.cases h.refused in
     record { cases = told.0; refused = told.1 }
 
-pub returns-in-err-line : goal.returns-in-err-line
-returns-in-err-line c =
-    let p = err_from_is_err_and c.from-residual-in-err-line.result c.from-residual-in-err-line.ensures.1 in
-    let t = c.in-ok-text.field-0 in
-    let told = answers_none c.args.line.now c.from-residual-in-err-line.result c.in-err-line.field-0.0 _ p.1 p.2
-    (λ u. unread c.args.line.now t c.if-is-comment.ensures c.in-ok-text.ensures.cases (subst (Unspelled (vec_items t.text)) c.as-slice-2.ensures.value (subst (λ x. Unspelled x c.as-slice-2.result.now) c.as-slice.ensures.value u)))
-    c.in-err-line.ensures in
+pub returns-in_err-line : goal.returns-in_err-line
+returns-in_err-line c =
+    let p = err_from_is_err_and c.from-residual-in_err-line.result c.from-residual-in_err-line.ensures.1 in
+    let t = c.in_ok-text.field-0 in
+    let told = answers_none c.args.line.now c.from-residual-in_err-line.result c.in_err-line.field-0.0 _ p.1 p.2
+    (λ u. unread c.args.line.now t c.if-is_comment.ensures c.in_ok-text.ensures.cases (subst (Unspelled (vec_items t.text)) c.as_slice-2.ensures.value (subst (λ x. Unspelled x c.as_slice-2.result.now) c.as_slice.ensures.value u)))
+    c.in_err-line.ensures in
     record { cases = told.0; refused = told.1 }
 
 pub returns : goal.returns
 returns c =
-    let t = c.in-ok-text.field-0 in
-    let l = c.in-ok-line.line in
+    let t = c.in_ok-text.field-0 in
+    let l = c.in_ok-line.line in
     record {
-      cases = read c.args.line.now t l c.if-is-comment.ensures c.in-ok-text.ensures.cases
-          (subst (λ ts. Found (vec_items t.text) ts l) c.as-slice-2.ensures.value (subst (λ x. Found x c.as-slice-2.result.now l) c.as-slice.ensures.value c.in-ok-line.ensures));
+      cases = read c.args.line.now t l c.if-is_comment.ensures c.in_ok-text.ensures.cases
+          (subst (λ ts. Found (vec_items t.text) ts l) c.as_slice-2.ensures.value (subst (λ x. Found x c.as_slice-2.result.now l) c.as_slice.ensures.value c.in_ok-line.ensures));
       refused = tt;
     }

@@ -9,15 +9,15 @@ pub loop-place-init : goal.loop-place-init
 loop-place-init c =
     fresh (record { text = c.new.result; tokens = c.new-2.result; mode = Between }) c.new-2.ensures.items refl
 
-pub returns-in-err-push : goal.returns-in-err-push
-returns-in-err-push c =
+pub returns-in_err-push : goal.returns-in_err-push
+returns-in_err-push c =
     let p = err_from_is_err_and c.from-residual.result c.from-residual.ensures.1 in
-    let h = broken c.args.line.now c.loop-place.place (state c.loop-place.lexer) c.from-residual.result c.in-err-push.field-0.0 _ p.1 p.2 c.loop-place-test.true c.loop-place.invariant.1 c.in-err-push.ensures in
+    let h = broken c.args.line.now c.loop-place.place (state c.loop-place.lexer) c.from-residual.result c.in_err-push.field-0.0 _ p.1 p.2 c.loop-place-test.true c.loop-place.invariant.1 c.in_err-push.ensures in
     record { cases = h.0; refused = h.1 }
 
 pub loop-place-preserved : goal.loop-place-preserved
 loop-place-preserved c =
-    let came = c.in-ok-push.ensures in
+    let came = c.in_ok-push.ensures in
     (came.sound, turn c.args.line.now c.loop-place.place (state c.loop-place.lexer) (state c.push.new.self) c.loop-place-test.true came.same c.loop-place.invariant.1)
 
 pub returns : goal.returns

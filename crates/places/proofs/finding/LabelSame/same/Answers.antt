@@ -5,4 +5,4 @@ use Rattle.std.proofs.lemmas.Bool.Decides.{Decides-eqb}
 
 pub returns : goal.returns
 returns c =
-    labels-decide c.args.self.now c.args.other.now _ _ c.eq.result c.as-bytes.ensures c.as-bytes-2.ensures (slice_eq-Decides Decides-eqb _ _ _ c.eq.ensures)
+    labels-decide c.args.self.now c.args.other.now _ _ c.eq.result c.as_bytes.ensures c.as_bytes-2.ensures (slice_eq-Decides Decides-eqb _ _ _ c.eq.ensures)

@@ -10,13 +10,13 @@ use Rattle.pool.proofs.Vouched.{vouch, why-none}
 use Rattle.pool.proofs.Rowed.{function-added}
 use Rattle.pool.proofs.store.Memory.add_function.Goals as goal
 
-pub invariant-of-self : goal.invariant-of-self
-invariant-of-self c =
+pub invariant_of-self : goal.invariant_of-self
+invariant_of-self c =
     let m = c.args.self.now in
     let k = c.args.counts.now in
     let n = k.functions in
     let x : Stamped Function = record { content = c.args.function.now; types = k.types } in
-    let w = c.in-ok-check.ensures.well in
+    let w = c.in_ok-check.ensures.well in
     let u = vouch m k w.vouched in
     let e = length-set m.functions.now n x in
     let l : n < length m.functions.now = omega (arith, c.if-n-min.false, c.min.ensures) in
@@ -26,7 +26,7 @@ pub returns : goal.returns
 returns c =
     let m = c.args.self.now in
     let k = c.args.counts.now in
-    let v = c.in-ok-check.ensures.well.vouched in
+    let v = c.in_ok-check.ensures.well.vouched in
     let l : k.functions < (rooms_of m).functions = omega (arith, c.if-n-min.false, c.min.ensures) in
     record {
       refused = sym (ap plainly (why-none m k (leb (rooms_of m).functions k.functions) FunctionsFull v (lt-leb (rooms_of m).functions k.functions l)));

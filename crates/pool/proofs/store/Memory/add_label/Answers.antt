@@ -5,16 +5,16 @@ use Rattle.pool.proofs.Vouched.{vouch}
 use Rattle.pool.proofs.Labelled.{label-old, label-fits, label-new, begun_more, none_found}
 use Rattle.pool.proofs.store.Memory.add_label.Goals as goal
 
-pub overflow-cast-result : goal.overflow-cast-result
-overflow-cast-result c = omega (arith, label-fits c.args.self.now c.args.counts.now c.args.text.now c.in-ok-label.label c.in-ok-label.place c.in-Some.k c.in-ok-label.ensures.vetted c.in-Some.is)
+pub overflow_cast-result : goal.overflow_cast-result
+overflow_cast-result c = omega (arith, label-fits c.args.self.now c.args.counts.now c.args.text.now c.in_ok-label.label c.in_ok-label.place c.in-Some.k c.in_ok-label.ensures.vetted c.in-Some.is)
 
-pub invariant-of-self : goal.invariant-of-self
-invariant-of-self c =
+pub invariant_of-self : goal.invariant_of-self
+invariant_of-self c =
     let m = c.args.self.now in
     let k = c.args.counts.now in
     let n = k.labels in
-    let l = c.in-ok-label.label in
-    let v = c.in-ok-label.ensures.vetted in
+    let l = c.in_ok-label.label in
+    let v = c.in_ok-label.ensures.vetted in
     let u = vouch m k v.vouched in
     let e = length-set m.labels.now n l in
     let room = v.room c.in-None.is in (
@@ -22,7 +22,7 @@ invariant-of-self c =
       (
         begun_more m.labels.now m.labels_high n l m.labels_begun u.begun (omega (arith, u.labels)),
         (
-          apart_more m.labels.now m.labels_high n l m.labels_apart (omega (arith, u.labels)) (omega arith) (none_found m k c.args.text.now l c.in-ok-label.place v c.in-None.is),
+          apart_more m.labels.now m.labels_high n l m.labels_apart (omega (arith, u.labels)) (omega arith) (none_found m k c.args.text.now l c.in_ok-label.place v c.in-None.is),
           (
             m.types_room,
             (sound-wider m.labels_high _ m.types.now m.types_high (omega (arith, u.labels)) m.types_sound, (m.types_apart, (m.functions_room, (m.functions_rising, (m.entries_room, (m.entries_rising, tt)))))),
@@ -32,7 +32,7 @@ invariant-of-self c =
     )
 
 pub returns-in-Some : goal.returns-in-Some
-returns-in-Some c = record { refused = c.in-ok-label.ensures.refused; done = label-old c.args.self.now c.args.counts.now c.args.text.now c.in-ok-label.label c.in-ok-label.place c.in-Some.k c.in-ok-label.ensures.vetted c.in-Some.is }
+returns-in-Some c = record { refused = c.in_ok-label.ensures.refused; done = label-old c.args.self.now c.args.counts.now c.args.text.now c.in_ok-label.label c.in_ok-label.place c.in-Some.k c.in_ok-label.ensures.vetted c.in-Some.is }
 
 pub returns-in-None : goal.returns-in-None
-returns-in-None c = record { refused = c.in-ok-label.ensures.refused; done = label-new c.args.self.now _ c.args.counts.now c.args.text.now c.in-ok-label.label c.in-ok-label.place c.in-ok-label.ensures.vetted c.in-None.is refl refl (record { types = refl; types_high = refl; functions = refl; functions_high = refl; entries = refl; entries_high = refl }) }
+returns-in-None c = record { refused = c.in_ok-label.ensures.refused; done = label-new c.args.self.now _ c.args.counts.now c.args.text.now c.in_ok-label.label c.in_ok-label.place c.in_ok-label.ensures.vetted c.in-None.is refl refl (record { types = refl; types_high = refl; functions = refl; functions_high = refl; entries = refl; entries_high = refl }) }

@@ -7,16 +7,16 @@ use Rattle.pool.proofs.Vouched.{vouch}
 use Rattle.pool.proofs.Typed.{type_old, type_fits, type_new, none_found}
 use Rattle.pool.proofs.store.Memory.add_type.Goals as goal
 
-pub overflow-cast-result : goal.overflow-cast-result
-overflow-cast-result c = omega (arith, type_fits c.args.self.now c.args.counts.now c.args.r c.in-ok-k.field-0 c.in-Some.k c.in-ok-k.ensures.vetted c.in-Some.is)
+pub overflow_cast-result : goal.overflow_cast-result
+overflow_cast-result c = omega (arith, type_fits c.args.self.now c.args.counts.now c.args.r c.in_ok-k.field-0 c.in-Some.k c.in_ok-k.ensures.vetted c.in-Some.is)
 
-pub invariant-of-self : goal.invariant-of-self
-invariant-of-self c =
+pub invariant_of-self : goal.invariant_of-self
+invariant_of-self c =
     let m = c.args.self.now in
     let k = c.args.counts.now in
     let n = k.types in
     let r = c.args.r in
-    let v = c.in-ok-k.ensures.vetted in
+    let v = c.in_ok-k.ensures.vetted in
     let u = vouch m k v.vouched in
     let e = length-set m.types.now n r in
     let room = v.room c.in-None.is in
@@ -30,7 +30,7 @@ invariant-of-self c =
             omega arith,
             (
               sound_more m.labels_high m.types.now m.types_high n r m.types_sound u.types (omega arith) f,
-              (apart_more m.types.now m.types_high n r m.types_apart u.types (omega arith) (none_found m k r c.in-ok-k.field-0 v c.in-None.is), (m.functions_room, (m.functions_rising, (m.entries_room, (m.entries_rising, tt))))),
+              (apart_more m.types.now m.types_high n r m.types_apart u.types (omega arith) (none_found m k r c.in_ok-k.field-0 v c.in-None.is), (m.functions_room, (m.functions_rising, (m.entries_room, (m.entries_rising, tt))))),
             ),
           ),
         ),
@@ -38,7 +38,7 @@ invariant-of-self c =
     )
 
 pub returns-in-Some : goal.returns-in-Some
-returns-in-Some c = record { refused = c.in-ok-k.ensures.refused; done = type_old c.args.self.now c.args.counts.now c.args.r c.in-ok-k.field-0 c.in-Some.k c.in-ok-k.ensures.vetted c.in-Some.is }
+returns-in-Some c = record { refused = c.in_ok-k.ensures.refused; done = type_old c.args.self.now c.args.counts.now c.args.r c.in_ok-k.field-0 c.in-Some.k c.in_ok-k.ensures.vetted c.in-Some.is }
 
 pub returns-in-None : goal.returns-in-None
-returns-in-None c = record { refused = c.in-ok-k.ensures.refused; done = type_new c.args.self.now _ c.args.counts.now c.args.r c.in-ok-k.field-0 c.in-ok-k.ensures.vetted c.in-None.is refl refl (record { labels = refl; labels_high = refl; functions = refl; functions_high = refl; entries = refl; entries_high = refl }) }
+returns-in-None c = record { refused = c.in_ok-k.ensures.refused; done = type_new c.args.self.now _ c.args.counts.now c.args.r c.in_ok-k.field-0 c.in_ok-k.ensures.vetted c.in-None.is refl refl (record { labels = refl; labels_high = refl; functions = refl; functions_high = refl; entries = refl; entries_high = refl }) }

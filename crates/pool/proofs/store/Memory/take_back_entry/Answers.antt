@@ -10,5 +10,5 @@ pub returns : goal.returns
 returns c =
     let m = c.args.self.now in
     let k = c.args.counts.now in
-    let v = c.in-ok-check.ensures.well.vouched in
+    let v = c.in_ok-check.ensures.well.vouched in
     record { refused = sym (ap plainly (why-none m k (eqb k.entries 0) NothingToTakeBack v (ne_eqb k.entries 0 c.if-counts-eq0.false))); done = entry_back m k (k.entries - 1) v (omega (arith, c.if-counts-eq0.false)) }

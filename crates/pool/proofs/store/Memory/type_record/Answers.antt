@@ -8,7 +8,7 @@ pub returns : goal.returns
 returns c =
     let m = c.args.self.now in
     let k = c.args.counts.now in
-    let v = c.in-ok-check.ensures.well.vouched in
+    let v = c.in_ok-check.ensures.well.vouched in
     record {
       refused = sym (ap plainly (read_why m k k.types c.args.n v c.if-n-counts.false));
       value = record { place = record_nth m k c.args.n (vouch m k v) c.if-n-counts.false; value = tree-live m k c.args.n (vouch m k v) c.if-n-counts.false };

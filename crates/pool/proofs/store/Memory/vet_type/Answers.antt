@@ -6,37 +6,37 @@ use Rattle.pool.specs.Held.{means}
 use Rattle.pool.proofs.Typed.{shown-types, unfit-shown, strange-type, unfit-leads, plainly-none, type_full, type_free, type_vetted}
 use Rattle.pool.proofs.store.Memory.vet_type.Goals as goal
 
-pub returns-in-err-check : goal.returns-in-err-check
-returns-in-err-check c =
+pub returns-in_err-check : goal.returns-in_err-check
+returns-in_err-check c =
     let p = err_from_is_err_and c.from-residual.result c.from-residual.ensures.1 in
-    rw (p.1, p.2) record { refused = strange-type c.args.self.now c.args.counts.now c.args.r c.in-err-check.field-0.0 c.in-err-check.ensures.refused; vetted = tt }
+    rw (p.1, p.2) record { refused = strange-type c.args.self.now c.args.counts.now c.args.r c.in_err-check.field-0.0 c.in_err-check.ensures.refused; vetted = tt }
 
-pub returns-in-err-check-2 : goal.returns-in-err-check-2
-returns-in-err-check-2 c =
+pub returns-in_err-check-2 : goal.returns-in_err-check-2
+returns-in_err-check-2 c =
     let m = c.args.self.now in
     let k = c.args.counts.now in
-    let v = c.in-ok-check.ensures.well.vouched in
+    let v = c.in_ok-check.ensures.well.vouched in
     let s = shown-types m k c.view.result v c.view.ensures in
-    let p = err_from_is_err_and c.from-residual-in-err-check-2.result c.from-residual-in-err-check-2.ensures.1 in
-    rw (p.1, p.2) record { refused = unfit-leads m k c.args.r c.in-err-check-2.field-0.0 v (c.in-err-check-2.ensures ∙ ap plainly (unfit-shown m k c.view.result c.args.r s)); vetted = tt }
+    let p = err_from_is_err_and c.from-residual-in_err-check-2.result c.from-residual-in_err-check-2.ensures.1 in
+    rw (p.1, p.2) record { refused = unfit-leads m k c.args.r c.in_err-check-2.field-0.0 v (c.in_err-check-2.ensures ∙ ap plainly (unfit-shown m k c.view.result c.args.r s)); vetted = tt }
 
-pub returns-then-is-full : goal.returns-then-is-full
-returns-then-is-full c =
+pub returns-then-is_full : goal.returns-then-is_full
+returns-then-is_full c =
     let m = c.args.self.now in
     let k = c.args.counts.now in
-    let v = c.in-ok-check.ensures.well.vouched in
+    let v = c.in_ok-check.ensures.well.vouched in
     let s = shown-types m k c.view.result v c.view.ensures in
-    let u : unfit k.labels k.types (means m) c.args.r ≡ None = plainly-none _ (c.in-ok-check-2.ensures ∙ ap plainly (unfit-shown m k c.view.result c.args.r s)) in
-    record { refused = sym (ap plainly (type_full m k c.args.r c.find-type-place.result v u c.find-type-place.ensures c.min-room.result c.min-room.ensures c.if-is-full.ensures)); vetted = tt }
+    let u : unfit k.labels k.types (means m) c.args.r ≡ None = plainly-none _ (c.in_ok-check-2.ensures ∙ ap plainly (unfit-shown m k c.view.result c.args.r s)) in
+    record { refused = sym (ap plainly (type_full m k c.args.r c.find_type-place.result v u c.find_type-place.ensures c.min-room.result c.min-room.ensures c.if-is_full.ensures)); vetted = tt }
 
 pub returns : goal.returns
 returns c =
     let m = c.args.self.now in
     let k = c.args.counts.now in
-    let v = c.in-ok-check.ensures.well.vouched in
+    let v = c.in_ok-check.ensures.well.vouched in
     let s = shown-types m k c.view.result v c.view.ensures in
-    let u : unfit k.labels k.types (means m) c.args.r ≡ None = plainly-none _ (c.in-ok-check-2.ensures ∙ ap plainly (unfit-shown m k c.view.result c.args.r s)) in
+    let u : unfit k.labels k.types (means m) c.args.r ≡ None = plainly-none _ (c.in_ok-check-2.ensures ∙ ap plainly (unfit-shown m k c.view.result c.args.r s)) in
     record {
-      refused = sym (ap plainly (type_free m k c.args.r c.find-type-place.result v u c.find-type-place.ensures c.min-room.result c.min-room.ensures c.if-is-full.ensures));
-      vetted = type_vetted m k c.args.r c.find-type-place.result v u c.find-type-place.ensures c.min-room.result c.min-room.ensures c.if-is-full.ensures;
+      refused = sym (ap plainly (type_free m k c.args.r c.find_type-place.result v u c.find_type-place.ensures c.min-room.result c.min-room.ensures c.if-is_full.ensures));
+      vetted = type_vetted m k c.args.r c.find_type-place.result v u c.find_type-place.ensures c.min-room.result c.min-room.ensures c.if-is_full.ensures;
     }

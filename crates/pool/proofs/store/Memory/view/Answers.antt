@@ -4,8 +4,8 @@ use Rattle.pool.proofs.Places.{apart_take}
 use Rattle.pool.proofs.Showing.{shows_when}
 use Rattle.pool.proofs.store.Memory.view.Goals as goal
 
-pub invariant-of-result : goal.invariant-of-result
-invariant-of-result c =
+pub invariant_of-result : goal.invariant_of-result
+invariant_of-result c =
     let m = c.args.self.now in
     let n = c.shown-n.result in
     let room : m.types_high ≤ length m.types.now = omega (arith, m.types_room) in

@@ -3,4 +3,4 @@ use Rattle.script.proofs.Lexing.{emitted}
 use Rattle.script.proofs.tokens.Lexer.emit.Goals as goal
 
 pub returns : goal.returns
-returns c = emitted c.args.self.now _ c.args.token c.requires.sound c.requires.within refl c.in-ok-push.ensures.items refl
+returns c = emitted c.args.self.now _ c.args.token c.requires.sound c.requires.within refl c.in_ok-push.ensures.items refl

@@ -8,4 +8,4 @@ use Rattle.std.proofs.lemmas.Bool.Decides.{Decides-eqb}
 pub returns : goal.returns
 returns c =
     same-part c.eq.result c.part.result.now _ c.args.name.now
-    (c.part.ensures ∙ ap (λ (t : List ℕ). bytes t c.args.self.now.line.name.span) c.as-slice.ensures.value) (slice_eq-Decides Decides-eqb _ _ _ c.eq.ensures)
+    (c.part.ensures ∙ ap (λ (t : List ℕ). bytes t c.args.self.now.line.name.span) c.as_slice.ensures.value) (slice_eq-Decides Decides-eqb _ _ _ c.eq.ensures)

@@ -10,8 +10,8 @@ loop-param-init c = ap bytes_of c.new-names.ensures.items
 
 pub loop-param-preserved : goal.loop-param-preserved
 loop-param-preserved c =
-    part_more (vec_items c.args.self.now.text) c.as-slice.result.now c.deref-param-items.result.now c.loop-param.param-index (vec_items c.loop-param.names) _ c.part.result
-    c.as-slice.ensures.value c.loop-param-test.true c.in-ok-push.ensures.items c.part.ensures c.loop-param.invariant
+    part_more (vec_items c.args.self.now.text) c.as_slice.result.now c.deref-param-items.result.now c.loop-param.param-index (vec_items c.loop-param.names) _ c.part.result
+    c.as_slice.ensures.value c.loop-param-test.true c.in_ok-push.ensures.items c.part.ensures c.loop-param.invariant
 
 pub returns : goal.returns
 returns c =

@@ -6,7 +6,7 @@ use Rattle.session.proofs.function.Session.answer.Goals as goal
 
 pub returns : goal.returns
 returns c =
-    answered c.args.text.now c.args.line.now (known c.in-Some.function.now) (vec_items c.in-ok-params.params) c.in-ok-params.ensures
-    (functions c.args.self.now) c.part-name.result.now c.as-slice.result.now c.as-slice-4.result.now c.as-slice-2.result.now c.as-slice-3.result.now (listed c.in-ok-resolved.resolved) c.as-slice-5.result.now _
-    c.part-name.ensures c.in-Some.ensures c.as-slice.ensures.value c.as-slice-4.ensures.value c.as-slice-2.ensures.value c.as-slice-3.ensures.value
-    c.in-ok-resolved.ensures c.as-slice-5.ensures.value c.in-ok-answer.ensures
+    answered c.args.text.now c.args.line.now (known c.in-Some.function.now) (vec_items c.in_ok-params.params) c.in_ok-params.ensures
+    (functions c.args.self.now) c.part-name.result.now c.as_slice.result.now c.as_slice-4.result.now c.as_slice-2.result.now c.as_slice-3.result.now (listed c.in_ok-resolved.resolved) c.as_slice-5.result.now _
+    c.part-name.ensures c.in-Some.ensures c.as_slice.ensures.value c.as_slice-4.ensures.value c.as_slice-2.ensures.value c.as_slice-3.ensures.value
+    c.in_ok-resolved.ensures c.as_slice-5.ensures.value c.in_ok-answer.ensures

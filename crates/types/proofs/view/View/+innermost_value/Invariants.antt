@@ -1,4 +1,4 @@
 use Rattle.types.proofs.view.View.+innermost_value.Given as goal
 
-abbrev pub decreases-innermost-value : goal.decreases-innermost-value
-decreases-innermost-value l = l.n
+abbrev pub decreases-innermost_value : goal.decreases-innermost_value
+decreases-innermost_value l = l.n
