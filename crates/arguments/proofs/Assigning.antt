@@ -1,19 +1,19 @@
 -- The loops that assign places and gather the arguments, and what comes of them.
-use Rattle.std.proofs.Common.{◌≡◌, ℕ, ◌+◌, ◌<◌, ◌≤◌, Bool, true, false, cond, not, eqb, ltb, ◌⊎◌, List, [], map, length, get_or, take, set, is_some, Some, None, Ok, Err, Option, Result, unwrap_or, sym, refl, ap, ◌∙◌, subst, inl, inr, arith, MatchResult}
+use Rattle.std.proofs.Common.{◌≡◌, ℕ, ◌+◌, ◌<◌, ◌≤◌, Bool, true, false, cond, not, eqb, List, map, length, get_or, take, set, is_some, Some, None, Ok, Err, Option, Result, unwrap_or, sym, refl, ap, ◌∙◌, inl, inr, arith, MatchResult}
 use Rattle.std.proofs.lemmas.List.FromFn.{fill_by_all, get_or-map-range_with_len, length-map-range_with_len}
 use Rattle.std.proofs.lemmas.List.{length-set, get_or-set_same, get_or-set_other, get_or-take, length-take-le}
 use Rattle.std.proofs.lemmas.Bool.{cases_eq, lt-ltb, le-ltb}
 use Rattle.std.specs.List.{range_with_len}
 use Rattle.terms.specs.Refusals.{refusal}
 use Rattle.terms.specs.Limits.{most_arguments}
-use Rattle.terms.specs.declared.Reason.TheVariants.{TooManyPositional, UnknownParameter, ParameterGivenTwice, MissingParameter}
+use Rattle.terms.specs.declared.Reason.TheVariants.{TooManyPositional, ParameterGivenTwice, MissingParameter}
 use Rattle.terms.specs.declared.Refusal.{Refusal}
 use Rattle.arguments.specs.declared.written.Argument.{Argument}
-use Rattle.arguments.specs.First.{when, first, first_below, count_below}
+use Rattle.arguments.specs.First.{when, first, count_below}
 use Rattle.arguments.specs.Names.{Name}
 use Rattle.arguments.specs.Gathering.{Assigned, giver_in, claimed, stands_at, empty_in, gathered}
-use Rattle.arguments.specs.Places.{Outcome, unless, blank, named, crowded, goes_to, place, giver, clash_of, clash, empty, standing, by_place, with_names}
-use Rattle.arguments.proofs.Firsts.{first_zero, first_more, first_hit, first_same, first_some, when-some}
+use Rattle.arguments.specs.Places.{Outcome, unless, blank, named, goes_to, place, giver, clash_of, clash, empty, standing, by_place, with_names}
+use Rattle.arguments.proofs.Firsts.{first_zero, first_more, first_hit, first_same}
 
 module _ (params : List (List ℕ)) (ns : List (Option Name)) where
   -- who is given a place, by the places that were assigned

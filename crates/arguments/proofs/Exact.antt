@@ -1,5 +1,5 @@
 -- The definition says what the subject says: a refusal is true, and where no refusal is true every argument stands where it belongs.
-use Rattle.std.proofs.Common.{◌≡◌, ℕ, ◌+◌, ◌<◌, ◌≤◌, Bool, true, false, cond, not, ◌&&◌, ◌||◌, eqb, ltb, ◌⊎◌, List, [], map, length, get_or, is_some, Some, None, Ok, Err, Option, unwrap_or, sym, refl, ap, ◌∙◌, subst, inl, inr, arith}
+use Rattle.std.proofs.Common.{◌≡◌, ℕ, ◌+◌, ◌<◌, ◌≤◌, Bool, true, false, cond, not, ◌&&◌, ◌||◌, eqb, ltb, List, length, get_or, is_some, Some, None, Ok, Option, unwrap_or, sym, refl, ap, ◌∙◌, subst, inl, inr, arith}
 use Rattle.std.proofs.lemmas.List.FromFn.{length-map-range_with_len, get_or-map-range_with_len}
 use Rattle.std.proofs.lemmas.Bool.{and_parts, or_cases, or_parts, not-true, not-false, both_ways, ltb-true, ltb-false, lt-ltb, eqb-true, eqb-false, eq-eqb, cases_lt, cases_order, and_from, not_from_false}
 use Rattle.terms.specs.Refusals.{refusal}
@@ -9,9 +9,9 @@ use Rattle.terms.specs.declared.Reason.TheVariants.{MalformedCall, PositionalAft
 use Rattle.terms.specs.declared.Refusal.{Refusal}
 use Rattle.arguments.specs.declared.written.Argument.{Argument}
 use Rattle.arguments.specs.declared.written.ArgumentName.{ArgumentName}
-use Rattle.arguments.specs.First.{when, first, first_below, any_below, count_below}
+use Rattle.arguments.specs.First.{when, first, any_below, count_below}
 use Rattle.arguments.specs.Names.{Name}
-use Rattle.arguments.specs.Places.{Outcome, unless, blank, named, outside, malformed, late, crowded, goes, goes_to, place, giver, clash_of, clash, empty, standing, by_place, with_names, settled, resolves}
+use Rattle.arguments.specs.Places.{Outcome, unless, blank, named, outside, malformed, late, crowded, goes_to, place, giver, clash_of, clash, empty, standing, by_place, with_names, settled, resolves}
 use Rattle.arguments.specs.Standing.{Belongs, Place, Stands, Outside, Says, rank, Leads, FirstTrue, Exactly}
 use Rattle.arguments.specs.Standing.Says.{too_many, counts_differ, name_outside, positional_late, positional_many, unknown, twice, missing}
 use Rattle.arguments.specs.View.{spell}

@@ -1,10 +1,10 @@
 -- A name's first matching parameter, and the place of an argument, in the subject's words.
-use Rattle.std.proofs.Common.{◌≡◌, ℕ, ◌<◌, Bool, true, false, cond, List, [], map, length, get_or, Some, None, Decides, MatchBool, Option, sym, refl, ap, ◌∙◌, subst, arith}
+use Rattle.std.proofs.Common.{◌≡◌, ℕ, Bool, true, false, cond, List, [], map, length, get_or, Some, None, Decides, MatchBool, Option, sym, refl, ap, subst}
 use Rattle.std.proofs.lemmas.Slice.Eq.{bytes_eq-Decides}
 use Rattle.std.proofs.lemmas.Bool.{both_ways}
 use Rattle.std.specs.Char.{to_ascii_lowercase}
 use Rattle.std.specs.Str.{bytes_eq}
-use Rattle.arguments.specs.First.{when, first, first_below}
+use Rattle.arguments.specs.First.{when}
 use Rattle.arguments.specs.Names.{Name, matches, first_match}
 use Rattle.arguments.specs.Places.{goes}
 use Rattle.arguments.specs.Standing.{Fits, FirstFit, Belongs}

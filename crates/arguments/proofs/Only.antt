@@ -1,5 +1,5 @@
 -- The subject's words leave one outcome.
-use Rattle.std.proofs.Common.{◌≡◌, ℕ, ◌<◌, ◌≤◌, Bool, true, false, cond, eqb, ◌⊎◌, List, length, Ok, Err, Option, sym, refl, ap, ◌∙◌, subst, inl, inr, arith}
+use Rattle.std.proofs.Common.{◌≡◌, ℕ, cond, eqb, ◌⊎◌, List, Ok, Err, Option, refl, ap, subst, inl, inr, arith}
 use Rattle.std.proofs.lemmas.Bool.Decides.{nat_tests}
 use Rattle.terms.proofs.Numbers.{number-tells}
 use Rattle.terms.specs.Refusals.{number}
@@ -11,7 +11,7 @@ use Rattle.arguments.specs.declared.written.ArgumentName.{ArgumentName}
 use Rattle.arguments.specs.Orders.{Reordered}
 use Rattle.arguments.specs.Places.{Outcome}
 use Rattle.arguments.specs.Standing.{Says, rank, Leads, FirstTrue, Exactly}
-use Rattle.arguments.specs.Standing.Says.{too_many, counts_differ, name_outside, positional_late, positional_many, unknown, twice, missing}
+use Rattle.arguments.specs.Standing.Says.{unknown, twice}
 use Rattle.arguments.proofs.Orderly.{same_answer}
 
 -- two refusals that lead each other have one rank and one place

@@ -1,11 +1,9 @@
 -- Names as they are handed in, and as they are spelled in the text.
-use Rattle.std.proofs.Common.{◌≡◌, ℕ, zero, suc, ◌<◌, Bool, not, ◌&&◌, List, [], ◌∷◌, length, get_or, is_some, Some, None, Option, sym, refl, ap, ◌∙◌, arith}
+use Rattle.std.proofs.Common.{◌≡◌, ℕ, zero, suc, Bool, not, List, [], ◌∷◌, length, get_or, is_some, Some, None, Option, sym, refl, ap, ◌∙◌}
 use Rattle.std.proofs.lemmas.List.{length-map}
 use Rattle.std.specs.Option.{option_map}
-use Rattle.terms.specs.Refusals.{refusal}
-use Rattle.terms.specs.declared.Reason.TheVariants.{PositionalAfterNamed}
 use Rattle.arguments.specs.declared.written.ArgumentName.{ArgumentName}
-use Rattle.arguments.specs.First.{when, first, first_below, any_below, count_below}
+use Rattle.arguments.specs.First.{when, first, any_below, count_below}
 use Rattle.arguments.specs.Places.{named, late, goes, place}
 use Rattle.arguments.specs.View.{spell, spelled}
 use Rattle.arguments.proofs.Firsts.{first_same, count_same}

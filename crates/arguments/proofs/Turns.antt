@@ -1,13 +1,12 @@
 -- One turn of each loop over the arguments, and what the code's tests of bytes say.
-use Rattle.std.proofs.Common.{◌≡◌, ℕ, ◌+◌, ◌<◌, ◌≤◌, Bool, true, false, cond, not, ◌&&◌, ◌||◌, eqb, List, [], ◌∷◌, ◌++◌, map, length, get_or, take, set, is_some, Some, None, Decides, MatchBool, Option, sym, refl, ap, ◌∙◌, subst, arith, Bor}
+use Rattle.std.proofs.Common.{◌≡◌, ℕ, ◌+◌, ◌<◌, Bool, true, false, cond, not, ◌&&◌, ◌||◌, List, [], ◌∷◌, ◌++◌, map, length, get_or, take, set, Some, None, Decides, MatchBool, Option, sym, refl, ap, ◌∙◌, arith, Bor}
 use Rattle.std.proofs.lemmas.Slice.Eq.{bytes_eq-Decides}
-use Rattle.std.proofs.lemmas.List.{get_or-map, length-map, length-set, take_more_set, take_more}
+use Rattle.std.proofs.lemmas.List.{get_or-map, length-map, take_more_set, take_more}
 use Rattle.std.proofs.lemmas.Bool.Decides.{same_from_decides}
 use Rattle.std.specs.Char.{to_ascii_lowercase}
 use Rattle.std.specs.Str.{bytes_eq}
 use Rattle.terms.specs.Refusals.{refusal}
 use Rattle.terms.specs.declared.Reason.TheVariants.{PositionalAfterNamed}
-use Rattle.terms.specs.declared.Refusal.{Refusal}
 use Rattle.arguments.specs.First.{when, first, first_below, any_below, count_below}
 use Rattle.arguments.specs.Names.{Name, matches, first_match}
 use Rattle.arguments.specs.Places.{named, late}

@@ -1,12 +1,12 @@
 -- The ways through the whole resolution, and what is promised of it.
-use Rattle.std.proofs.Common.{◌≡◌, ℕ, ◌<◌, ◌≤◌, true, false, not, List, length, Some, None, Ok, Err, Option, sym, refl, ap, ◌∙◌, subst, arith}
+use Rattle.std.proofs.Common.{◌≡◌, ℕ, ◌<◌, ◌≤◌, true, false, not, List, length, Some, None, Ok, Err, Option, sym, refl, ap, ◌∙◌, subst}
 use Rattle.terms.specs.Refusals.{refusal}
 use Rattle.terms.specs.declared.Reason.TheVariants.{TooManyPositional}
 use Rattle.terms.specs.declared.Refusal.{Refusal}
 use Rattle.arguments.specs.declared.written.Argument.{Argument}
 use Rattle.arguments.specs.declared.written.ArgumentName.{ArgumentName}
 use Rattle.arguments.specs.First.{first, any_below, count_below}
-use Rattle.arguments.specs.Orders.{Reordered, Alike}
+use Rattle.arguments.specs.Orders.{Alike}
 use Rattle.arguments.specs.Gathering.{Assigned, gathered}
 use Rattle.arguments.specs.Places.{Outcome, malformed, named, late, clash, with_names, resolves}
 use Rattle.arguments.specs.Resolution.{Resolution}

@@ -44,7 +44,7 @@ abbrev pub abc : List (List ℕ)
 abc = codes "a" ∷ codes "b" ∷ codes "c" ∷ []
 
 abbrev pub both_cases : List (List ℕ)
-both_cases = codes "a" ∷ codes "upper_a" ∷ []
+both_cases = codes "a" ∷ codes "A" ∷ []
 
 -- a call, and what comes of it
 pub record Row : Type 0 where

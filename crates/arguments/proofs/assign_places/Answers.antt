@@ -13,7 +13,7 @@ returns-in_err-places c =
     let params = bytes_of c.args.param_names.now in
     let names = c.args.arg_names.now in
     let i = c.loop-i.i in
-    let p = err_from_is_err_and c.from-residual.result c.from-residual.ensures.1 in
+    let p = err_from_is_err_and c.from_residual.result c.from_residual.ensures.1 in
     rw (p.1, p.2) (record {
       refused =
           not_claimed params (spell c.args.text.now names) i (length names) c.loop-i-test.true c.loop-i.invariant.0 c.loop-i.places c.loop-i.invariant.1 _

@@ -1,4 +1,4 @@
-use Rattle.std.proofs.Common.{length, get_or, sym, ◌∙◌}
+use Rattle.std.proofs.Common.{length, sym}
 use Rattle.arguments.specs.Places.{named}
 use Rattle.arguments.proofs.Firsts.{first_zero, below_more, any_hit}
 use Rattle.arguments.proofs.has_name.Goals as goal

@@ -1,5 +1,4 @@
-use Rattle.std.proofs.Common.{length, get_or, None, sym, ◌∙◌}
-use Rattle.arguments.specs.First.{first, when}
+use Rattle.std.proofs.Common.{length, get_or, None, sym}
 use Rattle.arguments.specs.Places.{outside}
 use Rattle.arguments.proofs.Firsts.{first_zero, below_more, any_hit}
 use Rattle.arguments.proofs.has_name_outside.Goals as goal

@@ -1,4 +1,4 @@
-use Rattle.std.proofs.Common.{◌≡◌, ℕ, ◌+◌, ◌≤◌, Bool, true, false, not, sym, ap, ◌∙◌, arith}
+use Rattle.std.proofs.Common.{◌≡◌, ℕ, ◌+◌, Bool, true, false, not, sym, ap, ◌∙◌, arith}
 use Rattle.arguments.specs.Places.{named}
 use Rattle.arguments.proofs.Firsts.{count-zero}
 use Rattle.arguments.proofs.Turns.{count_turn}

@@ -1,4 +1,4 @@
-use Rattle.std.proofs.Common.{◌≡◌, ℕ, ◌<◌, ◌≤◌, List, length, sym, ap, ◌∙◌, arith, Bor}
+use Rattle.std.proofs.Common.{◌≡◌, ℕ, List, length, arith, Bor}
 use Rattle.std.proofs.lemmas.List.{length-map}
 use Rattle.std.proofs.lemmas.Result.{err_from_is_err_and}
 use Rattle.arguments.specs.View.{bytes_of}
@@ -21,7 +21,7 @@ assign_places-requires c =
 
 pub returns-in_err-places : goal.returns-in_err-places
 returns-in_err-places c =
-    let p = err_from_is_err_and c.from-residual.result c.from-residual.ensures.1 in
+    let p = err_from_is_err_and c.from_residual.result c.from_residual.ensures.1 in
     rw (p.1, p.2)
     (clash_so (bytes_of c.args.param_names.now) c.args.text.now c.args.args.now c.args.arg_names.now (omega (arith, many c.args.param_names.now, c.positional_count.ensures)) _ c.in_err-places.ensures.refused)
 

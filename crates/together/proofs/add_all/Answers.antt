@@ -17,7 +17,7 @@ loop-r-preserved c =
 
 pub returns-in_err-add_type : goal.returns-in_err-add_type
 returns-in_err-add_type c =
-    let p = err_from_is_err_and c.from-residual-in_err-add_type.result c.from-residual-in_err-add_type.ensures.1 in
+    let p = err_from_is_err_and c.from_residual-in_err-add_type.result c.from_residual-in_err-add_type.ensures.1 in
     rw (p.1, p.2) ?
 
 pub returns : goal.returns

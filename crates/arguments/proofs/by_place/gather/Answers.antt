@@ -1,4 +1,4 @@
-use Rattle.std.proofs.Common.{length, refl, arith}
+use Rattle.std.proofs.Common.{refl, arith}
 use Rattle.std.proofs.lemmas.Result.{err_from_is_err_and}
 use Rattle.arguments.proofs.Assigning.{missing, gathered_more, gathered_all}
 use Rattle.arguments.proofs.Firsts.{first_zero}
@@ -9,7 +9,7 @@ loop-k-init c = (first_zero _, refl, λ j l. absurd (omega arith))
 
 pub returns-in_err-items : goal.returns-in_err-items
 returns-in_err-items c =
-    let p = err_from_is_err_and c.from-residual.result c.from-residual.ensures.1 in
+    let p = err_from_is_err_and c.from_residual.result c.from_residual.ensures.1 in
     rw (p.1, p.2) (missing c.args.places.now c.args.args.now c.loop-k.k _ c.loop-k-test.true c.loop-k.invariant.0 c.in_err-items.ensures)
 
 pub loop-k-preserved : goal.loop-k-preserved

@@ -1,4 +1,4 @@
-use Rattle.std.proofs.Common.{◌≡◌, eqb, get_or, None}
+use Rattle.std.proofs.Common.{◌≡◌, None}
 use Rattle.arguments.specs.Gathering.{giver_in}
 use Rattle.arguments.proofs.by_place.giver_of.Given as goal
 

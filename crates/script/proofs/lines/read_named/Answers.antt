@@ -5,13 +5,13 @@ use Rattle.script.proofs.lines.read_named.Goals as goal
 
 pub returns-in_err-name : goal.returns-in_err-name
 returns-in_err-name g c =
-    let p = err_from_is_err_and c.from-residual.result c.from-residual.ensures.1 in
-    named_none g.T-as-Item.spelled c.args.tokens.now _ c.from-residual.result c.in_err-name.field-0.0 _ p.1 p.2 (no_name g.T-as-Item.spelled g.T-as-Item.apart c.args.tokens.now) c.in_err-name.ensures
+    let p = err_from_is_err_and c.from_residual.result c.from_residual.ensures.1 in
+    named_none g.T-as-Item.spelled c.args.tokens.now _ c.from_residual.result c.in_err-name.field-0.0 _ p.1 p.2 (no_name g.T-as-Item.spelled g.T-as-Item.apart c.args.tokens.now) c.in_err-name.ensures
 
 pub returns-in_err-rest : goal.returns-in_err-rest
 returns-in_err-rest g c =
-    let p = err_from_is_err_and c.from-residual-in_err-rest.result c.from-residual-in_err-rest.ensures.1 in
-    named_none g.T-as-Item.spelled c.args.tokens.now _ c.from-residual-in_err-rest.result c.in_err-rest.field-0.0 _ p.1 p.2
+    let p = err_from_is_err_and c.from_residual-in_err-rest.result c.from_residual-in_err-rest.ensures.1 in
+    named_none g.T-as-Item.spelled c.args.tokens.now _ c.from_residual-in_err-rest.result c.in_err-rest.field-0.0 _ p.1 p.2
     (no_list g.T-as-Item.spelled g.T-as-Item.apart c.args.tokens.now c.in_ok-name.after.now c.in_ok-name.name c.in_ok-name.ensures) c.in_err-rest.ensures
 
 pub returns-then-not-is_empty : goal.returns-then-not-is_empty

@@ -11,8 +11,8 @@ loop-item-init g c =
 
 pub returns-in_err-item : goal.returns-in_err-item
 returns-in_err-item g c =
-    let p = err_from_is_err_and c.from-residual-in_err-item.result c.from-residual-in_err-item.ensures.1 in
-    list_none g.T-as-Item.spelled c.args.tokens.now _ c.from-residual-in_err-item.result c.in_err-item.field-0.0 _ p.1 p.2
+    let p = err_from_is_err_and c.from_residual-in_err-item.result c.from_residual-in_err-item.ensures.1 in
+    list_none g.T-as-Item.spelled c.args.tokens.now _ c.from_residual-in_err-item.result c.in_err-item.field-0.0 _ p.1 p.2
     (no_item g.T-as-Item.spelled g.T-as-Item.apart c.args.tokens.now c.loop-item.rest.now (vec_items c.loop-item.items) c.loop-item.invariant) c.in_err-item.ensures
 
 pub returns-in-Some-closed : goal.returns-in-Some-closed
@@ -22,8 +22,8 @@ returns-in-Some-closed g c =
 
 pub returns-in_err-rest-2 : goal.returns-in_err-rest-2
 returns-in_err-rest-2 g c =
-    let p = err_from_is_err_and c.from-residual-in_err-rest-2.result c.from-residual-in_err-rest-2.ensures.1 in
-    list_none g.T-as-Item.spelled c.args.tokens.now _ c.from-residual-in_err-rest-2.result c.in_err-rest-2.field-0.0 _ p.1 p.2
+    let p = err_from_is_err_and c.from_residual-in_err-rest-2.result c.from_residual-in_err-rest-2.ensures.1 in
+    list_none g.T-as-Item.spelled c.args.tokens.now _ c.from_residual-in_err-rest-2.result c.in_err-rest-2.field-0.0 _ p.1 p.2
     (no_separator g.T-as-Item.spelled g.T-as-Item.apart c.args.tokens.now c.loop-item.rest.now c.in_ok-item.after.now (vec_items c.loop-item.items) c.in_ok-item.item c.loop-item.invariant c.in_ok-item.ensures c.in_default-closed.ensures) c.in_err-rest-2.ensures
 
 pub loop-item-smaller : goal.loop-item-smaller

@@ -11,8 +11,8 @@ loop-place-init c =
 
 pub returns-in_err-push : goal.returns-in_err-push
 returns-in_err-push c =
-    let p = err_from_is_err_and c.from-residual.result c.from-residual.ensures.1 in
-    let h = broken c.args.line.now c.loop-place.place (state c.loop-place.lexer) c.from-residual.result c.in_err-push.field-0.0 _ p.1 p.2 c.loop-place-test.true c.loop-place.invariant.1 c.in_err-push.ensures in
+    let p = err_from_is_err_and c.from_residual.result c.from_residual.ensures.1 in
+    let h = broken c.args.line.now c.loop-place.place (state c.loop-place.lexer) c.from_residual.result c.in_err-push.field-0.0 _ p.1 p.2 c.loop-place-test.true c.loop-place.invariant.1 c.in_err-push.ensures in
     record { cases = h.0; refused = h.1 }
 
 pub loop-place-preserved : goal.loop-place-preserved

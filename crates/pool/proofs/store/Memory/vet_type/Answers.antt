@@ -8,7 +8,7 @@ use Rattle.pool.proofs.store.Memory.vet_type.Goals as goal
 
 pub returns-in_err-check : goal.returns-in_err-check
 returns-in_err-check c =
-    let p = err_from_is_err_and c.from-residual.result c.from-residual.ensures.1 in
+    let p = err_from_is_err_and c.from_residual.result c.from_residual.ensures.1 in
     rw (p.1, p.2) record { refused = strange-type c.args.self.now c.args.counts.now c.args.r c.in_err-check.field-0.0 c.in_err-check.ensures.refused; vetted = tt }
 
 pub returns-in_err-check-2 : goal.returns-in_err-check-2
@@ -17,7 +17,7 @@ returns-in_err-check-2 c =
     let k = c.args.counts.now in
     let v = c.in_ok-check.ensures.well.vouched in
     let s = shown-types m k c.view.result v c.view.ensures in
-    let p = err_from_is_err_and c.from-residual-in_err-check-2.result c.from-residual-in_err-check-2.ensures.1 in
+    let p = err_from_is_err_and c.from_residual-in_err-check-2.result c.from_residual-in_err-check-2.ensures.1 in
     rw (p.1, p.2) record { refused = unfit-leads m k c.args.r c.in_err-check-2.field-0.0 v (c.in_err-check-2.ensures ∙ ap plainly (unfit-shown m k c.view.result c.args.r s)); vetted = tt }
 
 pub returns-then-is_full : goal.returns-then-is_full
