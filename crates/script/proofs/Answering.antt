@@ -1,14 +1,13 @@
 -- From the tokens of a line to what its bytes say. Assumes nothing.
-use Rattle.std.proofs.Common.{◌≡◌, ℕ, Bool, true, false, cond, List, [], ◌∷◌, map, length, IfErr, Some, None, Ok, Err, vec_items, Option, Result, sym, refl, ap, ◌∙◌, subst, arith}
+use Rattle.std.proofs.Common.{◌≡◌, ℕ, false, cond, List, [], map, length, IfErr, Some, None, Err, vec_items, Result, sym, ap, ◌∙◌, subst, arith}
 use Rattle.script.specs.declared.fault.Fault.{Fault}
 use Rattle.script.specs.declared.fault.Fault.TheVariants.{Memory, Stray, Escape, Large, Unfinished, Expected}
-use Rattle.script.specs.declared.tokens.Token.{Token}
 use Rattle.script.specs.declared.tokens.Tokens.{Tokens}
 use Rattle.script.specs.declared.lines.Line.{Line}
 use Rattle.script.specs.declared.reads.ReadLine.{ReadLine}
-use Rattle.script.specs.Tokens.{Tok, lex}
+use Rattle.script.specs.Tokens.{lex}
 use Rattle.script.specs.Seen.{seen, Refuses, Expects, Listed, Faulty}
-use Rattle.script.specs.Lines.{Form, form, Found, Unspelled}
+use Rattle.script.specs.Lines.{form, Found, Unspelled}
 use Rattle.script.specs.Whole.{comment, says, shown, Reads, Unread, Answers}
 use Rattle.script.proofs.Unmapping.{form_back, form-seen}
 use Rattle.script.proofs.Insides.{inside}

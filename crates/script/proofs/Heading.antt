@@ -3,9 +3,7 @@ use Rattle.std.proofs.Common.{◌≡◌, ℕ, ◌+◌, ◌<◌, List, [], ◌∷
 use lib.ListN.{length-map}
 use Rattle.std.specs.List.{AllByRecursion}
 use Rattle.std.proofs.lemmas.List.{map_more}
-use Rattle.arguments.specs.declared.written.Argument.{Argument}
 use Rattle.script.specs.declared.tokens.Token.{Token}
-use Rattle.script.specs.declared.items.Text.{Text}
 use Rattle.script.specs.declared.items.Written.{Written}
 use Rattle.script.specs.declared.lines.Keyword.{Keyword}
 use Rattle.script.specs.declared.lines.Keyword.TheVariants as keyword
@@ -13,7 +11,7 @@ use Rattle.script.specs.declared.lines.ArgumentsLine.{ArgumentsLine}
 use Rattle.script.specs.declared.lines.Line.TheVariants as line
 use Rattle.script.specs.Seen.{Within}
 use Rattle.script.specs.Spelling.{spelled_argument}
-use Rattle.script.specs.Lines.{Form, blank, function, arguments, Says, spelled_named, Spelled, argument, name_in, paired, Found, Unspelled}
+use Rattle.script.specs.Lines.{blank, function, arguments, Says, spelled_named, argument, name_in, paired, Found, Unspelled}
 
 pub no_keyword : (text : List ℕ) (ts : List Token) (t : Token) (rest : List Token) → ts ≡ t ∷ rest → ((k : Keyword) → Says text t k → ⊥) → Unspelled text ts
 no_keyword text ts t rest e n blank s = let z : ◌≡◌ {A = ℕ} 0 1 = cc in omega arith

@@ -1,5 +1,5 @@
 -- The texts of a line lie where its tokens do. Assumes nothing.
-use Rattle.std.proofs.Common.{◌≡◌, ℕ, Bool, true, false, cond, List, [], ◌∷◌, ◌++◌, length, Some, None, vec_items, Option, sym, refl, ap, ◌∙◌, subst, arith}
+use Rattle.std.proofs.Common.{◌≡◌, ℕ, Bool, true, false, cond, List, [], ◌∷◌, ◌++◌, length, Some, None, vec_items, Option, subst, arith}
 use Rattle.std.specs.List.{AllByRecursion}
 use Rattle.arguments.specs.declared.written.Argument.{Argument}
 use Rattle.arguments.specs.declared.written.ArgumentName.{ArgumentName}
@@ -7,7 +7,6 @@ use Rattle.script.specs.declared.tokens.Span.{Span}
 use Rattle.script.specs.declared.tokens.Token.{Token}
 use Rattle.script.specs.declared.tokens.Token.TheVariants.{Word, Quoted, Number}
 use Rattle.script.specs.declared.items.Text.{Text}
-use Rattle.script.specs.declared.items.Written.{Written}
 use Rattle.script.specs.declared.lines.Line.{Line}
 use Rattle.script.specs.declared.lines.Line.TheVariants as line
 use Rattle.script.specs.Seen.{Inside, Within}

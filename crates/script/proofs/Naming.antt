@@ -1,9 +1,8 @@
 -- A name and a list that end the line. Assumes nothing.
-use Rattle.std.proofs.Common.{◌≡◌, ℕ, List, [], ◌∷◌, ◌++◌, length, Ok, Err, Result, sym, refl, ap, ◌∙◌, subst, append_assoc, append-nil, arith}
+use Rattle.std.proofs.Common.{◌≡◌, ℕ, List, [], ◌∷◌, ◌++◌, length, Err, Result, sym, ap, ◌∙◌, subst, append_assoc, append-nil, arith}
 use Rattle.std.proofs.lemmas.List.{nil_from_length}
 use Rattle.script.specs.declared.fault.Fault.{Fault}
 use Rattle.script.specs.declared.tokens.Token.{Token}
-use Rattle.script.specs.declared.tokens.Token.TheVariants.{Open, Close, Comma}
 use Rattle.script.specs.declared.items.Text.{Text}
 use Rattle.script.specs.Seen.{Expects}
 use Rattle.script.specs.Spelling.{text_token, spelled_text, tail, items, spelled_list, Apart, Foreign}

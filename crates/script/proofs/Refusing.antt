@@ -1,11 +1,10 @@
 -- Where the tokens begin with no item. Assumes nothing.
-use Rattle.std.proofs.Common.{◌≡◌, ℕ, List, [], ◌∷◌, ◌++◌, Some, None, Ok, Err, Option, Result, sym, refl, ap, ◌∙◌, subst, Bor}
+use Rattle.std.proofs.Common.{◌≡◌, ℕ, List, [], ◌∷◌, ◌++◌, Some, None, Err, Option, Result, sym, ap, ◌∙◌, subst, Bor}
 use Rattle.arguments.specs.declared.written.ArgumentName.{ArgumentName}
 use Rattle.script.specs.declared.fault.Fault.{Fault}
 use Rattle.script.specs.declared.tokens.Token.{Token}
 use Rattle.script.specs.declared.tokens.Token.TheVariants.{Number}
 use Rattle.script.specs.declared.items.Text.{Text}
-use Rattle.script.specs.declared.items.Written.{Written}
 use Rattle.script.specs.Seen.{Expects}
 use Rattle.script.specs.Spelling.{text_token, text_of, spelled_name, spelled_argument, spelled_list, Foreign, BeginsList}
 use Rattle.script.proofs.Runs.{expects_more}

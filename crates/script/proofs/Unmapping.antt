@@ -1,19 +1,18 @@
 -- Tokens that are seen as what a line says spell a line. Assumes nothing.
-use Rattle.std.proofs.Common.{◌≡◌, ℕ, Bool, true, false, cond, List, [], ◌∷◌, ◌++◌, map, length, Some, None, Option, sym, refl, ap, ◌∙◌, subst, arith}
+use Rattle.std.proofs.Common.{◌≡◌, ℕ, Bool, true, false, cond, List, [], ◌∷◌, ◌++◌, map, Some, None, Option, sym, refl, ap, ◌∙◌, subst, arith}
 use Rattle.std.proofs.lemmas.List.{map-append}
 use Rattle.arguments.specs.declared.written.ArgumentName.{ArgumentName}
 use Rattle.script.specs.declared.tokens.Span.{Span}
 use Rattle.script.specs.declared.tokens.Token.{Token}
 use Rattle.script.specs.declared.tokens.Token.TheVariants.{Word, Quoted, Number, Open, Close, Comma, Arrow}
 use Rattle.script.specs.declared.items.Text.{Text}
-use Rattle.script.specs.declared.items.Written.{Written}
 use Rattle.script.specs.declared.lines.Keyword.{Keyword}
 use Rattle.script.specs.declared.lines.Keyword.TheVariants as keyword
 use Rattle.script.specs.Tokens as tokens
 use Rattle.script.specs.Tokens.{Tok}
 use Rattle.script.specs.Seen.{bytes, seen}
-use Rattle.script.specs.Spelling.{text_token, text_of, spelled_text, spelled_name, spelled_argument, tail, items, spelled_list}
-use Rattle.script.specs.Lines.{Form, blank, function, arguments, letters, Says, spelled_named, Headed, Spelled}
+use Rattle.script.specs.Spelling.{text_token, text_of, spelled_text, spelled_name, spelled_argument, tail, items}
+use Rattle.script.specs.Lines.{Form, blank, function, arguments, letters, spelled_named, Headed, Spelled}
 use Rattle.script.specs.Whole.{shown}
 
 -- a token, with nothing of its text

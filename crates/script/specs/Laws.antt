@@ -6,7 +6,6 @@ use Rattle.script.specs.declared.tokens.Span.{Span}
 use Rattle.script.specs.declared.tokens.Token.{Token}
 use Rattle.script.specs.declared.tokens.Token.TheVariants.{Word, Quoted, Number, Open, Close, Comma, Arrow}
 use Rattle.script.specs.declared.items.Text.{Text}
-use Rattle.script.specs.declared.items.Written.{Written}
 use Rattle.script.specs.Spelling.{text_token, spelled_text, text_of, spelled_name, spelled_argument, Apart}
 
 -- the text of a token, or another one

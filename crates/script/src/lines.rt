@@ -71,7 +71,7 @@ fn keyword_of(text: &[u8], token: Token) -> Option<Keyword>
 // Reads a name and a list, and no more.
 fn read_named<T: Item + Drop>(tokens: &[Token], items: &mut Vec<T>) -> Result<Text, Fault>
     requires { items.old.items ≡ [] }
-    ensures { Named spelled tokens.now items.new.items result }
+    ensures { Named T.spelled tokens.now items.new.items result }
 {
     let (name, after) = Text::read(tokens)?;
     let rest = read_list(after, items)?;

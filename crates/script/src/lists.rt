@@ -12,7 +12,7 @@ pub(crate) fn read_list<'a, T: Item + Drop>(
     items: &mut Vec<T>,
 ) -> Result<&'a [Token], Fault>
     requires { items.old.items ≡ [] }
-    ensures { BeginsList spelled tokens.now items.new.items result }
+    ensures { BeginsList T.spelled tokens.now items.new.items result }
 {
     let mut rest = opened(tokens)?;
     if let Some(after) = closed(rest) {

@@ -1,4 +1,4 @@
-use Rattle.std.proofs.Common.{map, refl, ap, ◌∙◌, arith, take_all}
+use Rattle.std.proofs.Common.{map, refl, ap, ◌∙◌, take_all}
 use Rattle.script.specs.Lines.{argument, name_in}
 use Rattle.script.proofs.Heading.{mapped_more}
 use Rattle.script.proofs.lines.split.Goals as goal
