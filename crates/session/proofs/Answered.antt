@@ -1,5 +1,5 @@
 -- The answer of a line, from what its parts come to.
-use Rattle.std.proofs.Common.{◌≡◌, ℕ, List, Some, Ok, vec_items, Option, sym, ap, ◌∙◌, subst, Bor, MutBor, MatchOption}
+use Rattle.std.proofs.Common.{◌≡◌, ℕ, List, Some, Ok, vec_items, Option, ap, ◌∙◌, subst, Bor, MatchOption}
 use Rattle.arguments.specs.declared.written.Argument.{Argument}
 use Rattle.arguments.specs.declared.written.ArgumentName.{ArgumentName}
 use Rattle.arguments.specs.Resolution.{Resolution}
@@ -17,7 +17,7 @@ module _ (text : List ℕ) (a : ArgumentsLine) (f : Known) (params : List (Bor (
       (subst (λ (m : List Argument). Resolution f.params text m names (Ok xs)) q
       (subst (λ (l : List (List ℕ)). Resolution l text args names (Ok xs)) (ap bytes_of p ∙ names_of) h))
 
-  pub answered : (fs : List Known) (name : List ℕ) (ps qs : List (MutBor (List ℕ))) (args : List Argument) (names : List (Option ArgumentName)) (xs shown : List Argument) (s : List ℕ)
+  pub answered : (fs : List Known) (name : List ℕ) (ps qs : List (Bor (List ℕ))) (args : List Argument) (names : List (Option ArgumentName)) (xs shown : List Argument) (s : List ℕ)
       → name ≡ text_bytes text a.name → Some f ≡ newest name fs → ps ≡ params → qs ≡ params → args ≡ vec_items a.args → names ≡ vec_items a.names
       → Resolution (bytes_of ps) text args names (Ok xs) → shown ≡ xs → s ≡ placed_text name (bytes_of qs) shown
       → MatchOption (newest (text_bytes text a.name) fs) ⊥ (λ g. Shows text a g s)
