@@ -1,5 +1,5 @@
 -- What labels are written with. Assumes nothing.
-use Rattle.std.specs.Prelude.{ℕ, cond, List, [], ◌∷◌, length, take, Ok, Err, codes, Result, nat_lt}
+use Rattle.std.specs.Prelude.{ℕ, cond, List, length, take, Ok, Err, codes, Result, nat_lt}
 use Rattle.terms.specs.Limits.{longest_label}
 use Rattle.terms.specs.Refusals.{refusal}
 use Rattle.terms.specs.declared.Reason.TheVariants.{LabelTooLong}

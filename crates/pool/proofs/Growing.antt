@@ -1,8 +1,7 @@
 -- How growths join, and what room they leave: for callers that add through a trial. Assumes nothing.
-use Rattle.std.proofs.Common.{◌≡◌, ℕ, ◌+◌, ◌<◌, ◌≤◌, Bool, true, false, cond, not, ◌&&◌, leb, List, [], ◌∷◌, ◌++◌, take, Some, None, Option, sym, refl, ap, ◌∙◌, subst, ⊎_elim, arith}
+use Rattle.std.proofs.Common.{◌≡◌, ℕ, ◌+◌, ◌<◌, ◌≤◌, Bool, true, false, not, ◌&&◌, leb, [], ◌∷◌, ◌++◌, take, Some, None, sym, refl, ap, ◌∙◌, arith}
 use Rattle.std.proofs.lemmas.List.{take-take}
 use Rattle.std.proofs.lemmas.Bool.{leb-true, lt-leb, and_right, cond-false}
-use Rattle.terms.specs.declared.Reason.{Reason}
 use Rattle.terms.specs.declared.Reason.TheVariants.{BufferTooSmall, OutOfRange, UnknownPart, BadPart, TooDeep, TypesFull}
 use Rattle.terms.specs.Refusals.{first}
 use Rattle.places.specs.declared.record.TypeRecord.{TypeRecord}

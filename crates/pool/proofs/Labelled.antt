@@ -15,7 +15,7 @@ use Rattle.places.specs.Finding.{Finds, Absent}
 use Rattle.places.proofs.Tells.{label-tells, spelled-short}
 use Rattle.pool.specs.declared.store.Counts.{Counts}
 use Rattle.pool.specs.declared.store.Memory.{Memory}
-use Rattle.pool.specs.Facts.{Begun, initial_labels}
+use Rattle.pool.specs.Facts.{Begun}
 use Rattle.pool.specs.Held.{labels_of, rooms_of, vouches, newest}
 use Rattle.pool.specs.Reasons.{among, why_label}
 use Rattle.pool.specs.Steps.{LabelVetted, LabelAdded}

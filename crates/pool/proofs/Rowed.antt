@@ -1,6 +1,6 @@
 -- Functions and entries that are appended or counted back. Assumes nothing.
-use Rattle.std.proofs.Common.{◌≡◌, ℕ, ◌+◌, ◌-◌, ◌<◌, ◌≤◌, Bool, true, false, List, [], ◌∷◌, ◌++◌, map, length, take, set, sym, refl, ap, ◌∙◌, arith}
-use Rattle.std.proofs.lemmas.List.{length-set, length-take-le, take-map, take-take}
+use Rattle.std.proofs.Common.{◌≡◌, ℕ, ◌+◌, ◌<◌, ◌≤◌, true, List, map, length, take, set, sym, refl, ap, ◌∙◌, arith}
+use Rattle.std.proofs.lemmas.List.{length-set, take-map, take-take}
 use Rattle.places.specs.declared.function.Function.{Function}
 use Rattle.places.specs.declared.entry.Entry.{Entry}
 use Rattle.places.specs.declared.stamped.Stamped.{Stamped}
@@ -9,11 +9,11 @@ use Rattle.types.specs.Trees.{tree}
 use Rattle.pool.specs.declared.store.Counts.{Counts}
 use Rattle.pool.specs.declared.store.Memory.{Memory}
 use Rattle.pool.specs.Facts.{stamp_at}
-use Rattle.pool.specs.Held.{functions_of, entries_of, content_of, rooms_of, vouches, newest}
+use Rattle.pool.specs.Held.{content_of, rooms_of, vouches, newest}
 use Rattle.pool.specs.Rows.{function_rows, entry_rows, Appended, TakenBack}
 use Rattle.pool.proofs.Places.{map_more_set}
 use Rattle.pool.proofs.Stamps.{stamp-set_same, newest-more, newest-less}
-use Rattle.pool.proofs.Vouched.{Vouch, vouch, well}
+use Rattle.pool.proofs.Vouched.{vouch, well}
 
 -- the first rows of the first rows
 front : {T : Type 0} (xs : List (Stamped T)) (k n : ℕ) → k ≤ n → map content_of (take k xs) ≡ take k (map content_of (take n xs))

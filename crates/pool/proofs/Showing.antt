@@ -1,14 +1,14 @@
 -- What a view of a memory shows. Assumes nothing.
-use Rattle.std.proofs.Common.{◌≡◌, ℕ, ◌<◌, ◌≤◌, Bool, true, false, cond, List, length, take, MatchBool, sym, refl, ap, ◌∙◌, arith}
+use Rattle.std.proofs.Common.{◌≡◌, ℕ, ◌≤◌, Bool, true, false, cond, List, length, take, MatchBool, sym, refl, ap, ◌∙◌, arith}
 use Rattle.std.proofs.lemmas.List.{length-take-le}
 use Rattle.places.specs.declared.record.TypeRecord.{TypeRecord}
 use Rattle.types.specs.declared.view.View.{View}
 use Rattle.types.specs.Trees.{tree}
-use Rattle.types.specs.Views.{records, size, meant}
+use Rattle.types.specs.Views.{records, size}
 use Rattle.types.proofs.Meanings.{tree-take}
 use Rattle.pool.specs.declared.store.Counts.{Counts}
 use Rattle.pool.specs.declared.store.Memory.{Memory}
-use Rattle.pool.specs.Held.{means, vouches}
+use Rattle.pool.specs.Held.{vouches}
 use Rattle.pool.specs.Steps.{Shows}
 use Rattle.pool.proofs.Vouched.{vouch}
 

@@ -1,11 +1,11 @@
 -- Types that are found or added. Assumes nothing.
-use Rattle.std.proofs.Common.{◌≡◌, ℕ, ◌+◌, ◌<◌, ◌≤◌, Bool, true, false, cond, not, ◌&&◌, leb, List, [], ◌∷◌, ◌++◌, map, length, get_or, take, set, is_some, Some, None, Decides, MatchBool, Option, sym, refl, ap, ◌∙◌, subst, ⊎_elim, arith}
+use Rattle.std.proofs.Common.{◌≡◌, ℕ, ◌+◌, ◌<◌, Bool, true, false, cond, not, ◌&&◌, leb, List, [], ◌∷◌, ◌++◌, length, get_or, take, set, is_some, Some, None, Decides, MatchBool, Option, sym, refl, ap, ◌∙◌, subst, arith}
 use Rattle.std.proofs.lemmas.Bool.Decides.{when_true}
 use Rattle.std.specs.List.{slice_get}
-use Rattle.std.proofs.lemmas.List.{take_more_set, take-set, length-set, length-take-le}
+use Rattle.std.proofs.lemmas.List.{length-set, length-take-le}
 use Rattle.std.proofs.lemmas.Option.{slice_get-get_or}
 use Rattle.terms.specs.declared.Reason.{Reason}
-use Rattle.terms.specs.declared.Reason.TheVariants.{BufferTooSmall, TypesFull}
+use Rattle.terms.specs.declared.Reason.TheVariants.{TypesFull}
 use Rattle.terms.specs.Refusals.{first, plainly}
 use Rattle.terms.specs.declared.Refusal.{Refusal}
 use Rattle.terms.specs.Limits.{most_types}
@@ -17,7 +17,7 @@ use Rattle.types.specs.Trees.{Ty, same, grown, tree, meanings}
 use Rattle.types.specs.Checks.{tests, unfit, fit}
 use Rattle.types.specs.Views.{size, meant}
 use Rattle.types.proofs.Meanings.{Below, tree_set, tree-new, meanings-front, meanings-more}
-use Rattle.types.proofs.Fitting.{unfit-same, fit_none, fit_parts, fit_below, fit-wider, tree-at, sound_more}
+use Rattle.types.proofs.Fitting.{unfit-same, fit_none, fit_parts, fit_below, tree-at}
 use Rattle.types.proofs.Telling.{record_told, same_true, same-itself}
 use Rattle.pool.specs.declared.store.Counts.{Counts}
 use Rattle.pool.specs.declared.store.Memory.{Memory}

@@ -1,5 +1,5 @@
 -- What a memory vouches for. Assumes nothing.
-use Rattle.std.proofs.Common.{◌≡◌, ℕ, ◌+◌, ◌-◌, ◌<◌, ◌≤◌, min, Bool, true, false, not, ◌&&◌, eqb, leb, List, [], ◌∷◌, map, length, get_or, take, Some, None, sym, refl, ap, ◌∙◌, ⊎_elim, arith}
+use Rattle.std.proofs.Common.{◌≡◌, ℕ, ◌-◌, ◌<◌, ◌≤◌, Bool, true, false, not, ◌&&◌, eqb, leb, List, [], ◌∷◌, map, length, take, Some, None, sym, refl, ap, ◌∙◌, ⊎_elim, arith}
 use Rattle.std.specs.List.{slice_get}
 use Rattle.std.proofs.lemmas.List.{length-take-le, length-map, take-map, take-take}
 use Rattle.std.proofs.lemmas.Option.{slice_get-get_or}
@@ -9,22 +9,22 @@ use Rattle.terms.specs.declared.Reason.TheVariants.{BufferTooSmall, NothingThere
 use Rattle.terms.specs.Refusals.{first, plainly}
 use Rattle.terms.specs.declared.Reason.{Reason}
 use Rattle.terms.specs.declared.Refusal.{Refusal}
-use Rattle.terms.specs.Limits.{first_labels, longest_label, deepest_type}
+use Rattle.terms.specs.Limits.{first_labels}
 use Rattle.places.specs.declared.label.Label.{Label}
 use Rattle.places.specs.declared.stamped.Stamped.{Stamped}
 use Rattle.places.specs.Labels.{spelled}
 use Rattle.places.proofs.Tells.{label-tells, spelled-short}
-use Rattle.types.specs.Trees.{Ty, none, tree, meanings, depth, Calm}
+use Rattle.types.specs.Trees.{none, tree, meanings}
 use Rattle.types.specs.Facts.{Apart}
 use Rattle.types.proofs.Meanings.{length_meanings}
 use Rattle.types.proofs.Telling.{numbers_tell, flat_at, calm_tree}
 use Rattle.pool.specs.declared.store.Counts.{Counts}
 use Rattle.pool.specs.declared.store.Memory.{Memory}
-use Rattle.pool.specs.Facts.{initial_labels, stamp_at, Rising, back}
-use Rattle.pool.specs.Held.{labels_of, types_of, functions_of, entries_of, content_of, means, rooms_of, newest, vouches}
+use Rattle.pool.specs.Facts.{stamp_at, Rising, back}
+use Rattle.pool.specs.Held.{labels_of, types_of, content_of, means, newest, vouches}
 use Rattle.pool.specs.Reasons.{strange, why_strange, why_read}
 use Rattle.pool.specs.Laws.{ToldApart, Well}
-use Rattle.pool.proofs.Places.{nth_some, nth_map, nth_unmap, nth_take, nth_within}
+use Rattle.pool.proofs.Places.{nth_some, nth_map, nth_unmap, nth_take}
 
 -- the tests by which a memory vouches for counts
 pub record Vouch (m : Memory) (c : Counts) : Type 0 where

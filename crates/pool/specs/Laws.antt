@@ -3,7 +3,7 @@ use Rattle.std.specs.Prelude.{◌≡◌, ℕ, ◌+◌, ◌<◌, ◌≤◌, true,
 use Rattle.std.specs.List.{slice_get}
 use Rattle.terms.specs.Limits.{first_labels, longest_label, deepest_type}
 use Rattle.places.specs.Finding.{Absent}
-use Rattle.types.specs.Trees.{Ty, depth, Calm}
+use Rattle.types.specs.Trees.{depth, Calm}
 use Rattle.pool.specs.declared.store.Counts.{Counts}
 use Rattle.pool.specs.declared.store.Memory.{Memory}
 use Rattle.pool.specs.Facts.{initial_labels, stamp_at, back}

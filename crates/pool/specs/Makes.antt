@@ -1,5 +1,5 @@
 -- What a new memory holds. Assumes nothing.
-use Rattle.std.specs.Prelude.{◌≡◌, ℕ, min, Bool, false, not, ◌&&◌, List, [], ◌∷◌, length, Option, nat_le}
+use Rattle.std.specs.Prelude.{◌≡◌, ℕ, min, Bool, false, not, ◌&&◌, [], ◌∷◌, length, Option, nat_le}
 use Rattle.terms.specs.declared.Reason.{Reason}
 use Rattle.terms.specs.declared.Reason.TheVariants.{BufferTooSmall}
 use Rattle.terms.specs.Refusals.{first}

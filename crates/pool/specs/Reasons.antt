@@ -1,12 +1,12 @@
 -- Why a step on memory and counts is refused. Assumes nothing.
-use Rattle.std.specs.Prelude.{ℕ, ◌-◌, Bool, true, false, not, ◌&&◌, ◌||◌, List, [], ◌∷◌, ◌++◌, length, Option, ◌==◌, nat_le, nat_lt}
+use Rattle.std.specs.Prelude.{ℕ, ◌-◌, Bool, false, not, ◌&&◌, ◌||◌, List, [], ◌∷◌, ◌++◌, length, Option, ◌==◌, nat_le, nat_lt}
 use Rattle.std.specs.Str.{bytes_eq}
 use Rattle.terms.specs.declared.Reason.{Reason}
 use Rattle.terms.specs.declared.Reason.TheVariants.{BufferTooSmall, LabelTooLong, LabelsFull, TypesFull, FunctionsFull, PlanFull, TooFewFreeTypes, NothingToTakeBack, NothingThere}
 use Rattle.terms.specs.Refusals.{first}
 use Rattle.terms.specs.Limits.{longest_label, room_for_call}
 use Rattle.places.specs.declared.record.TypeRecord.{TypeRecord}
-use Rattle.types.specs.Trees.{Ty, same, grown}
+use Rattle.types.specs.Trees.{same, grown}
 use Rattle.types.specs.Checks.{tests}
 use Rattle.pool.specs.declared.store.Counts.{Counts}
 use Rattle.pool.specs.declared.store.Memory.{Memory}

@@ -1,8 +1,6 @@
 -- What appending a function or an entry comes to, and counting it back. Assumes nothing.
-use Rattle.std.specs.Prelude.{◌≡◌, ℕ, ◌+◌, List, [], ◌∷◌, ◌++◌, length, take, Option, Result, MatchResult}
-use Rattle.terms.specs.declared.Reason.{Reason}
+use Rattle.std.specs.Prelude.{◌≡◌, ℕ, ◌+◌, List, [], ◌∷◌, ◌++◌, length, take, Result}
 use Rattle.terms.specs.declared.Refusal.{Refusal}
-use Rattle.terms.specs.Refusals.{refusal_of, plainly}
 use Rattle.places.specs.declared.function.Function.{Function}
 use Rattle.places.specs.declared.entry.Entry.{Entry}
 use Rattle.pool.specs.declared.store.Counts.{Counts}

@@ -1,5 +1,5 @@
 -- What each step on memory and counts comes to. Assumes nothing.
-use Rattle.std.specs.Prelude.{◌≡◌, ℕ, ◌<◌, true, List, [], ◌∷◌, ◌++◌, take, Some, None, Ok, Err, Option, Result, MatchResult}
+use Rattle.std.specs.Prelude.{◌≡◌, ℕ, ◌<◌, true, List, take, Some, None, Option, Result, MatchResult}
 use Rattle.std.specs.List.{slice_get}
 use Rattle.places.specs.declared.label.Label.{Label}
 use Rattle.places.specs.Labels.{spelled}
@@ -8,8 +8,6 @@ use Rattle.terms.specs.declared.Reason.{Reason}
 use Rattle.terms.specs.declared.Refusal.{Refusal}
 use Rattle.terms.specs.Refusals.{refusal_of, plainly}
 use Rattle.places.specs.declared.record.TypeRecord.{TypeRecord}
-use Rattle.places.specs.declared.function.Function.{Function}
-use Rattle.places.specs.declared.entry.Entry.{Entry}
 use Rattle.types.specs.Trees.{grown}
 use Rattle.types.specs.Checks.{fit}
 use Rattle.types.specs.declared.view.View.{View}
@@ -17,8 +15,8 @@ use Rattle.types.specs.Views.{size, meant}
 use Rattle.pool.specs.declared.store.Counts.{Counts}
 use Rattle.pool.specs.declared.store.Memory.{Memory}
 use Rattle.pool.specs.declared.store.Trial.{Trial}
-use Rattle.pool.specs.Held.{vouches, State, labels_of, records_of, types_of, means, seen, with_labels, with_types, with_functions, with_entries, rooms_of}
-use Rattle.pool.specs.Reasons.{why_label, why_type, why_function, why_entry}
+use Rattle.pool.specs.Held.{vouches, labels_of, records_of, types_of, means, seen, with_labels, rooms_of}
+use Rattle.pool.specs.Reasons.{why_label, why_type}
 use Rattle.pool.specs.Laws.{Well, Interned, Grows}
 
 -- a step is refused exactly where a reason is true, by the first that is, and then nothing changes

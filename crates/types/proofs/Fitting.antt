@@ -1,15 +1,14 @@
 -- What a record that may stand has, part by part. Assumes nothing.
-use Rattle.std.proofs.Common.{◌≡◌, ℕ, ◌+◌, ◌<◌, ◌≤◌, max, Bool, true, false, cond, not, ◌&&◌, ◌||◌, eqb, ltb, leb, ◌≢◌, List, [], ◌∷◌, length, get_or, take, set, Some, None, sym, refl, ap, ◌∙◌, subst, ⊎_elim, arith, below_more}
+use Rattle.std.proofs.Common.{◌≡◌, ℕ, ◌+◌, ◌<◌, ◌≤◌, Bool, true, false, not, ◌&&◌, ◌||◌, eqb, ltb, leb, ◌≢◌, List, [], ◌∷◌, length, get_or, take, set, None, sym, refl, ap, ◌∙◌, subst, ⊎_elim, arith, below_more}
 use Rattle.std.proofs.lemmas.List.{get_or-set_same, get_or-set_other, get_or-take, length-take-le}
-use Rattle.std.proofs.lemmas.Bool.{and_parts, or_parts, not-true, leb-false, leb-true, ltb-false, cases_Bool, eqb-true, cases_lt, ltb-true, lt-leb, and_from, not_from_false}
-use Rattle.std.proofs.lemmas.Bool.Decides.{nat_tests}
+use Rattle.std.proofs.lemmas.Bool.{and_parts, not-true, leb-false, ltb-false, cases_Bool, eqb-true, ltb-true, lt-leb, and_from, not_from_false}
 use Rattle.terms.specs.declared.Reason.TheVariants.{OutOfRange, UnknownPart, BadPart, TooDeep}
 use Rattle.terms.specs.Refusals.{first}
 use Rattle.terms.specs.Limits.{deepest_type}
 use Rattle.terms.specs.Kinds.{kinds, has_child, is_integer}
 use Rattle.places.specs.declared.record.TypeRecord.{TypeRecord}
 use Rattle.places.specs.Records.{blank}
-use Rattle.types.specs.Trees.{Ty, none, kind_of, wild, depth, grown, tree, is_dictionary}
+use Rattle.types.specs.Trees.{Ty, kind_of, wild, depth, grown, tree, is_dictionary}
 use Rattle.types.specs.Checks.{uses_label, numbers_fit, in_range, unknown_part, bad_part, too_deep, unfit, fit}
 use Rattle.types.specs.Facts.{Sound}
 use Rattle.types.proofs.Meanings.{Below, tree_set, tree-take, tree_placed, grown-below}

@@ -4,7 +4,7 @@ use Rattle.std.proofs.lemmas.List.{get_or_append_left, get_or_at, get_or_past, l
 use Rattle.terms.specs.Kinds.{has_child}
 use Rattle.places.specs.declared.record.TypeRecord.{TypeRecord}
 use Rattle.places.specs.Records.{blank}
-use Rattle.types.specs.Trees.{Ty, none, node, is_dictionary, grown, grow, meanings, tree}
+use Rattle.types.specs.Trees.{Ty, none, is_dictionary, grown, grow, meanings, tree}
 
 grow-append : (ts : List Ty) (rs ss : List TypeRecord) → grow ts (rs ++ ss) ≡ grow (grow ts rs) ss
 unfolding grow

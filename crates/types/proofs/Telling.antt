@@ -1,17 +1,16 @@
 -- Numbers tell types: equal trees have one number. What stands is calm and not too deep. Assumes nothing.
-use Rattle.std.proofs.Common.{◌≡◌, ℕ, ◌+◌, ◌<◌, ◌≤◌, max, Bool, true, false, cond, ◌&&◌, ◌||◌, eqb, leb, ◌≢◌, List, [], ◌∷◌, length, get_or, take, set, ℤ, pos, negsuc, Some, None, sym, refl, ap, ◌∙◌, subst, ⊎_elim, arith}
+use Rattle.std.proofs.Common.{◌≡◌, ℕ, ◌<◌, ◌≤◌, Bool, true, false, ◌&&◌, eqb, List, length, get_or, ℤ, pos, negsuc, Some, sym, refl, ap, ◌∙◌, subst, ⊎_elim, arith}
 use Rattle.std.specs.List.{slice_get}
 use Rattle.std.proofs.lemmas.Option.{slice_get-get_or}
-use Rattle.std.proofs.lemmas.List.{get_or-set_same, get_or-set_other, get_or-take, length-take-le}
-use Rattle.std.proofs.lemmas.Bool.{and_parts, cases_Bool, cases_lt, cases_order, cond-true, cond-false, eq-eqb, ne_eqb, eqb-true}
+use Rattle.std.proofs.lemmas.Bool.{and_parts, cases_Bool, cases_order, cond-true, cond-false, eq-eqb, ne_eqb, eqb-true}
 use Rattle.std.proofs.lemmas.Bool.Decides.{nat_tests}
 use Rattle.terms.specs.Limits.{deepest_type}
-use Rattle.terms.specs.Kinds.{kinds, has_child, is_integer}
+use Rattle.terms.specs.Kinds.{has_child, is_integer}
 use Rattle.places.specs.declared.record.TypeRecord.{TypeRecord}
 use Rattle.places.specs.Records.{blank}
 use Rattle.types.specs.Trees.{Head, Ty, none, node, kind_of, child_of, second_of, head_of, same_int, same_head, same, wild, depth, Calm, grown, tree, is_dictionary}
 use Rattle.types.specs.Facts.{Sound, Apart}
-use Rattle.types.proofs.Meanings.{Below, tree-past}
+use Rattle.types.proofs.Meanings.{Below}
 use Rattle.types.proofs.Fitting.{Fit, sound-at, tree-at, fit_below, fit_child, fit_second, fit_calm, fit_key, fit_flat}
 
 pub same_int-tells : (a b : ℤ) → same_int a b ≡ true → a ≡ b

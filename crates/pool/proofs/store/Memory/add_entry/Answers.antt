@@ -20,7 +20,18 @@ invariant_of-self c =
     let u = vouch m k w.vouched in
     let e = length-set m.entries.now n x in
     let l : n < length m.entries.now = omega (arith, c.if-n-min.false, c.min.ensures) in
-    (m.labels_room, (m.labels_begun, (m.labels_apart, (m.types_room, (m.types_sound, (m.types_apart, (m.functions_room, (m.functions_rising, (omega arith, (rising_more m.entries.now m.entries_high n x m.entries_rising u.entries (omega arith) w.entries-over, tt))))))))))
+    record {
+      labels_room = m.labels_room;
+      labels_begun = m.labels_begun;
+      labels_apart = m.labels_apart;
+      types_room = m.types_room;
+      types_sound = m.types_sound;
+      types_apart = m.types_apart;
+      functions_room = m.functions_room;
+      functions_rising = m.functions_rising;
+      entries_room = omega arith;
+      entries_rising = rising_more m.entries.now m.entries_high n x m.entries_rising u.entries (omega arith) w.entries_over;
+    }
 
 pub returns : goal.returns
 returns c =

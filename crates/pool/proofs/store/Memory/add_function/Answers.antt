@@ -20,7 +20,18 @@ invariant_of-self c =
     let u = vouch m k w.vouched in
     let e = length-set m.functions.now n x in
     let l : n < length m.functions.now = omega (arith, c.if-n-min.false, c.min.ensures) in
-    (m.labels_room, (m.labels_begun, (m.labels_apart, (m.types_room, (m.types_sound, (m.types_apart, (omega arith, (rising_more m.functions.now m.functions_high n x m.functions_rising u.functions (omega arith) w.functions_over, (m.entries_room, (m.entries_rising, tt))))))))))
+    record {
+      labels_room = m.labels_room;
+      labels_begun = m.labels_begun;
+      labels_apart = m.labels_apart;
+      types_room = m.types_room;
+      types_sound = m.types_sound;
+      types_apart = m.types_apart;
+      functions_room = omega arith;
+      functions_rising = rising_more m.functions.now m.functions_high n x m.functions_rising u.functions (omega arith) w.functions_over;
+      entries_room = m.entries_room;
+      entries_rising = m.entries_rising;
+    }
 
 pub returns : goal.returns
 returns c =

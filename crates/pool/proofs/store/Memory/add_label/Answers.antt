@@ -17,19 +17,18 @@ invariant_of-self c =
     let v = c.in_ok-label.ensures.vetted in
     let u = vouch m k v.vouched in
     let e = length-set m.labels.now n l in
-    let room = v.room c.in-None.is in (
-      omega arith,
-      (
-        begun_more m.labels.now m.labels_high n l m.labels_begun u.begun (omega (arith, u.labels)),
-        (
-          apart_more m.labels.now m.labels_high n l m.labels_apart (omega (arith, u.labels)) (omega arith) (none_found m k c.args.text.now l c.in_ok-label.place v c.in-None.is),
-          (
-            m.types_room,
-            (sound-wider m.labels_high _ m.types.now m.types_high (omega (arith, u.labels)) m.types_sound, (m.types_apart, (m.functions_room, (m.functions_rising, (m.entries_room, (m.entries_rising, tt)))))),
-          ),
-        ),
-      ),
-    )
+    let room = v.room c.in-None.is in record {
+      labels_room = omega arith;
+      labels_begun = begun_more m.labels.now m.labels_high n l m.labels_begun u.begun (omega (arith, u.labels));
+      labels_apart = apart_more m.labels.now m.labels_high n l m.labels_apart (omega (arith, u.labels)) (omega arith) (none_found m k c.args.text.now l c.in_ok-label.place v c.in-None.is);
+      types_room = m.types_room;
+      types_sound = sound-wider m.labels_high _ m.types.now m.types_high (omega (arith, u.labels)) m.types_sound;
+      types_apart = m.types_apart;
+      functions_room = m.functions_room;
+      functions_rising = m.functions_rising;
+      entries_room = m.entries_room;
+      entries_rising = m.entries_rising;
+    }
 
 pub returns-in-Some : goal.returns-in-Some
 returns-in-Some c = record { refused = c.in_ok-label.ensures.refused; done = label-old c.args.self.now c.args.counts.now c.args.text.now c.in_ok-label.label c.in_ok-label.place c.in-Some.k c.in_ok-label.ensures.vetted c.in-Some.is }

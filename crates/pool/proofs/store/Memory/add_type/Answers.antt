@@ -20,22 +20,18 @@ invariant_of-self c =
     let u = vouch m k v.vouched in
     let e = length-set m.types.now n r in
     let room = v.room c.in-None.is in
-    let f : fit m.labels_high n (means m) r ≡ true = ap (λ (x : ℕ). fit x n (means m) r) (sym u.labels) ∙ v.fits in (
-      m.labels_room,
-      (
-        m.labels_begun,
-        (
-          m.labels_apart,
-          (
-            omega arith,
-            (
-              sound_more m.labels_high m.types.now m.types_high n r m.types_sound u.types (omega arith) f,
-              (apart_more m.types.now m.types_high n r m.types_apart u.types (omega arith) (none_found m k r c.in_ok-k.field-0 v c.in-None.is), (m.functions_room, (m.functions_rising, (m.entries_room, (m.entries_rising, tt))))),
-            ),
-          ),
-        ),
-      ),
-    )
+    let f : fit m.labels_high n (means m) r ≡ true = ap (λ (x : ℕ). fit x n (means m) r) (sym u.labels) ∙ v.fits in record {
+      labels_room = m.labels_room;
+      labels_begun = m.labels_begun;
+      labels_apart = m.labels_apart;
+      types_room = omega arith;
+      types_sound = sound_more m.labels_high m.types.now m.types_high n r m.types_sound u.types (omega arith) f;
+      types_apart = apart_more m.types.now m.types_high n r m.types_apart u.types (omega arith) (none_found m k r c.in_ok-k.field-0 v c.in-None.is);
+      functions_room = m.functions_room;
+      functions_rising = m.functions_rising;
+      entries_room = m.entries_room;
+      entries_rising = m.entries_rising;
+    }
 
 pub returns-in-Some : goal.returns-in-Some
 returns-in-Some c = record { refused = c.in_ok-k.ensures.refused; done = type_old c.args.self.now c.args.counts.now c.args.r c.in_ok-k.field-0 c.in-Some.k c.in_ok-k.ensures.vetted c.in-Some.is }

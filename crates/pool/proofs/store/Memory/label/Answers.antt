@@ -2,7 +2,7 @@ use Rattle.std.proofs.Common.{Some, sym, ap, ◌∙◌, arith}
 use Rattle.terms.specs.Refusals.{plainly}
 use Rattle.places.specs.Labels.{spelled}
 use Rattle.pool.proofs.Places.{read_at}
-use Rattle.pool.proofs.Vouched.{vouch, read_why}
+use Rattle.pool.proofs.Vouched.{read_why}
 use Rattle.pool.proofs.store.Memory.label.Goals as goal
 
 pub returns : goal.returns

@@ -1,4 +1,4 @@
-use Rattle.std.proofs.Common.{sym, ap, ◌∙◌}
+use Rattle.std.proofs.Common.{sym, ap}
 use Rattle.terms.specs.Refusals.{plainly}
 use Rattle.pool.proofs.Labelled.{spelled-ok, label_full, label_free, label_vetted}
 use Rattle.pool.proofs.store.Memory.vet_label.Goals as goal

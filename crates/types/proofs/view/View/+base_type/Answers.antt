@@ -1,4 +1,4 @@
-use Rattle.std.proofs.Common.{◌≡◌, sym, ap, ◌∙◌}
+use Rattle.std.proofs.Common.{sym, ap, ◌∙◌}
 use Rattle.types.specs.Trees.{base_type}
 use Rattle.types.specs.Views.{meant}
 use Rattle.types.proofs.Steps.{base_list, base_other}

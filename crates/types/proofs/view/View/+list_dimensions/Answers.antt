@@ -1,4 +1,4 @@
-use Rattle.std.proofs.Common.{◌≡◌, ℕ, suc, sym, ap, ◌∙◌, arith}
+use Rattle.std.proofs.Common.{sym, ap, arith}
 use Rattle.types.specs.Trees.{dimensions}
 use Rattle.types.specs.Views.{meant}
 use Rattle.types.proofs.Steps.{dimensions-list, dimensions-other, few_dimensions}

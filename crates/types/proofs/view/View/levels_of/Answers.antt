@@ -1,4 +1,4 @@
-use Rattle.std.proofs.Common.{◌≡◌, ℕ, ◌+◌, Bool, cond, ap, ◌∙◌}
+use Rattle.std.proofs.Common.{ℕ, ◌+◌, Bool, cond, ap, ◌∙◌}
 use Rattle.types.specs.Trees.{depth}
 use Rattle.types.specs.Views.{meant}
 use Rattle.types.proofs.Steps.{depth-grown}
