@@ -2,7 +2,7 @@
 #![tactic(auto)]
 
 ghost use Rattle.std.specs.Prelude.{◌≡◌, ℕ, ◌<◌, ◌≤◌, false, not, length, IfOk, None, slice_index_or};
-ghost use Rattle.std.specs.List.{AllByRecursion as All};
+ghost use Rattle.std.specs.List.{AllByRecursion};
 ghost use Rattle.terms.specs.Refusals.{refusal_of};
 ghost use Rattle.terms.specs.Limits.{most_arguments};
 ghost use Rattle.arguments.specs.Answers.{outcome};
@@ -177,7 +177,7 @@ pub fn resolve_function_arguments(
 // How many worked cases there are: a table of calls, each with the outcome that the definition gives it.
 pub fn worked_cases() -> usize
     ensures value { result ≡ length table }
-    ensures cases { All Holds table }
+    ensures cases { AllByRecursion Holds table }
 {
     6
 }

@@ -1,6 +1,6 @@
 // Reads a line of a script from its bytes.
 ghost use Rattle.std.specs.Prelude.{◌≡◌, length, IfErr};
-ghost use Rattle.std.specs.List.{AllByRecursion as All};
+ghost use Rattle.std.specs.List.{AllByRecursion};
 ghost use Rattle.script.specs.Seen.{Faulty};
 ghost use Rattle.script.specs.Whole.{is_blank, comment, Answers};
 ghost use Rattle.script.specs.Worked.{Holds, table};
@@ -54,7 +54,7 @@ pub fn read_line(heap: Global, line: &[u8]) -> Result<ReadLine, Fault>
 // How many worked lines there are: a table of lines, each with the tokens that the definition gives it.
 pub fn worked_lines() -> usize
     ensures value { result ≡ length table }
-    ensures cases { All Holds table }
+    ensures cases { AllByRecursion Holds table }
 {
     7
 }
