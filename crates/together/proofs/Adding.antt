@@ -1,14 +1,12 @@
 -- One type after another through a trial. Assumes nothing.
-use Rattle.std.proofs.Common.{◌≡◌, ℕ, ◌+◌, ◌<◌, ◌≤◌, Bool, true, false, not, List, [], ◌∷◌, length, get_or, Some, None, Option, sym, refl, ap, ◌∙◌, subst, ⊎_elim, arith}
+use Rattle.std.proofs.Common.{◌≡◌, ℕ, ◌+◌, ◌<◌, Bool, true, false, not, List, [], ◌∷◌, length, Some, None, Option, sym, refl, ap, ◌∙◌, subst, ⊎_elim, arith}
 use Rattle.std.specs.List.{slice_get}
-use Rattle.std.proofs.lemmas.Option.{slice_get-get_or}
 use Rattle.std.proofs.lemmas.Bool.{cases_lt}
 use Rattle.terms.specs.declared.Reason.{Reason}
 use Rattle.terms.specs.declared.Reason.TheVariants.{BufferTooSmall, TypesFull}
 use Rattle.terms.specs.declared.Refusal.{Refusal}
-use Rattle.terms.specs.Refusals.{refusal, plainly, first}
+use Rattle.terms.specs.Refusals.{plainly, first}
 use Rattle.places.specs.declared.record.TypeRecord.{TypeRecord}
-use Rattle.places.specs.Records.{blank}
 use Rattle.types.specs.Trees.{grown}
 use Rattle.types.proofs.Meanings.{Below}
 use Rattle.pool.specs.declared.store.Counts.{Counts}
@@ -18,7 +16,7 @@ use Rattle.pool.specs.Laws.{Grows}
 use Rattle.pool.specs.Reasons.{why_strange, why_type}
 use Rattle.pool.specs.Steps.{TypeAdded}
 use Rattle.pool.proofs.Places.{nth_within}
-use Rattle.pool.proofs.Growing.{grows_none, grows-more, grows_back, grows-wider, grown-kept, accepted_below, short}
+use Rattle.pool.proofs.Growing.{grows-more, grows_back, grows-wider, grown-kept, accepted_below, short}
 use Rattle.together.specs.Together.{There, AllThere, Kept, Dropped, Untried, Room}
 
 none-plain : (o : Option Reason) → None ≡ plainly o → o ≡ None
