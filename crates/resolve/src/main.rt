@@ -5,6 +5,7 @@ use anyhow::anyhow;
 use script::{ArgumentsLine, FunctionLine, Line, ReadLine, read_line};
 use session::{Failure, Session, part};
 use std::io::{BufRead, BufReader};
+use std::process::ExitCode;
 use terms::Refusal;
 use words::{arguments_words, function_words};
 
@@ -103,10 +104,12 @@ fn run(rt: &HostRuntime) -> anyhow::Result<()> {
     Ok(())
 }
 
-fn main(rt: HostRuntime) -> anyhow::Result<()> {
-    let done = run(&rt);
-    if let Err(error) = &done {
-        eprintln!(rt; "{error}")?;
+fn main(rt: HostRuntime) -> anyhow::Result<ExitCode> {
+    match run(&rt) {
+        Ok(()) => Ok(ExitCode::SUCCESS),
+        Err(error) => {
+            eprintln!(rt; "{error}")?;
+            Ok(ExitCode::FAILURE)
+        }
     }
-    done
 }
