@@ -1,14 +1,13 @@
 -- A name's first matching parameter, and the place of an argument, in the subject's words.
-use Rattle.std.proofs.Common.{◌≡◌, ℕ, Bool, true, false, cond, List, [], map, length, get_or, Some, None, Decides, MatchBool, Option, sym, refl, ap, subst}
+use Rattle.std.proofs.Common.{◌≡◌, ℕ, Bool, true, false, cond, List, [], map, length, get_or, Some, None, Decides, MatchBool, Option, sym, ap}
 use Rattle.std.proofs.lemmas.Slice.Eq.{bytes_eq-Decides}
-use Rattle.std.proofs.lemmas.Bool.{both_ways}
+use Rattle.std.proofs.lemmas.Bool.{both_ways, false_from_ne_true}
 use Rattle.std.specs.Char.{to_ascii_lowercase}
 use Rattle.std.specs.Str.{bytes_eq}
-use Rattle.arguments.specs.First.{when}
 use Rattle.arguments.specs.Names.{Name, matches, first_match}
 use Rattle.arguments.specs.Places.{goes}
 use Rattle.arguments.specs.Standing.{Fits, FirstFit, Belongs}
-use Rattle.arguments.proofs.Firsts.{first_some, first-none, none_first, first_hit, when-some, when-none}
+use Rattle.arguments.proofs.Firsts.{below_some, below_hit}
 
 -- the code's test of a name is the subject's
 pub fits-decides : (n : Name) (p : List ℕ) → Decides (matches n p) (Fits n p)
@@ -19,32 +18,22 @@ fits-decides n p = go n.quoted
     go false = bytes_eq-Decides (map to_ascii_lowercase n.bytes) (map to_ascii_lowercase p)
 
 misfit : (n : Name) (p : List ℕ) → (Fits n p → ⊥) → matches n p ≡ false
-misfit n p h = go (matches n p) refl
-  where
-    go : (b : Bool) → matches n p ≡ b → b ≡ false
-    go true e = absurd (h ((fits-decides n p).0 e))
-    go false e = refl
+misfit n p h = false_from_ne_true (matches n p) (λ e. h ((fits-decides n p).0 e))
 
 module _ (params : List (List ℕ)) (n : Name) where
-  abbrev tries : ℕ → Option ℕ
-  tries k = when (matches n (get_or params k [])) k
+  abbrev fitting : ℕ → Bool
+  fitting k = matches n (get_or params k [])
 
   match_fits : (k : ℕ) → first_match n params ≡ Some k → FirstFit params n k
   match_fits k e =
-      let s = first_some tries (length params) k e in
-      let w = when-some (matches n (get_or params s.0 [])) s.0 k s.2 in
-      let f : FirstFit params n s.0 = record {
-        there = s.1;
-        fits = (fits-decides n (get_or params s.0 [])).0 w.0;
-        before = λ j l h. both_ways (matches n (get_or params j [])) (when-none (matches n (get_or params j [])) j (first-none tries s.0 s.3 j l)) ((fits-decides n (get_or params j [])).1 h);
-      } in
-      subst (FirstFit params n) w.1 f
+      let s = below_some fitting (length params) k e in record {
+        there = s.0;
+        fits = (fits-decides n (get_or params k [])).0 s.1;
+        before = λ j l h. both_ways (fitting j) (s.2 j l) ((fits-decides n (get_or params j [])).1 h);
+      }
 
   fits_match : (k : ℕ) → FirstFit params n k → first_match n params ≡ Some k
-  fits_match k h =
-      first_hit tries (length params) k k h.there
-      (none_first tries k (λ j l. ap (λ (b : Bool). when b j) (misfit n (get_or params j []) (h.before j l))))
-      (ap (λ (b : Bool). when b k) ((fits-decides n (get_or params k [])).1 h.fits))
+  fits_match k h = below_hit fitting (length params) k h.there (λ j l. misfit n (get_or params j []) (h.before j l)) ((fits-decides n (get_or params k [])).1 h.fits)
 
 pub goes-belongs : (params : List (List ℕ)) (i k : ℕ) (o : Option Name) → goes params i o ≡ Some k → Belongs params i o k
 goes-belongs params i k None e = cc

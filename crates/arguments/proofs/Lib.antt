@@ -1,10 +1,12 @@
 pub mod Firsts
+pub mod Listed
+pub mod Formed
 pub mod Squeeze
 pub mod Fitting
 pub mod Spelling
 pub mod Exact
 pub mod Orderly
 pub mod Only
-pub mod Turns
+pub mod Late
 pub mod Assigning
 pub mod Whole

@@ -41,7 +41,7 @@ back-again {args} {args'} {names} {names'} r =
 
 unspelled : (text : List ℕ) (o : Option ArgumentName) → option_map (spelled text) o ≡ None → o ≡ None
 unspelled text None e = refl
-unspelled text (Some n) e = absurd (let z : ◌≡◌ {A = ℕ} 0 1 = cc in omega arith)
+unspelled text (Some n) e = cc
 
 -- where a named argument is written makes no difference to where it belongs
 belongs_moved : (params : List (List ℕ)) (i j k : ℕ) (o : Option Name) → (o ≡ None → j ≡ i) → Belongs params i o k → Belongs params j o k
@@ -70,11 +70,11 @@ module _ (params : List (List ℕ)) (text : List ℕ) {args args' : List Argumen
   still_named i l None None e e' = refl
   still_named i l (Some x) (Some y) e e' = refl
   still_named i l None (Some y) e e' =
-      absurd (let a : get_or names' i None ≡ None = ap (λ (j : ℕ). get_or names' j None) (sym (r.still i l e)) ∙ r.name i l ∙ e in let z : ◌≡◌ {A = ℕ} 0 1 = cc in omega arith)
+      absurd (let a : get_or names' i None ≡ None = ap (λ (j : ℕ). get_or names' j None) (sym (r.still i l e)) ∙ r.name i l ∙ e in cc)
   still_named i l (Some x) None e e' =
       let b = back-again r in
       let l' : i < length names' = omega (arith, r.as_many_names) in
-      absurd (let a : get_or names i None ≡ None = ap (λ (j : ℕ). get_or names j None) (sym (b.still i l' e')) ∙ b.name i l' ∙ e' in let z : ◌≡◌ {A = ℕ} 0 1 = cc in omega arith)
+      absurd (let a : get_or names i None ≡ None = ap (λ (j : ℕ). get_or names j None) (sym (b.still i l' e')) ∙ b.name i l' ∙ e' in cc)
 
   same_named : (i : ℕ) → i < length names → named names' i ≡ named names i
   same_named i l = still_named i l (get_or names i None) (get_or names' i None) refl refl

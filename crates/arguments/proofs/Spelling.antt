@@ -1,10 +1,11 @@
 -- Names as they are handed in, and as they are spelled in the text.
-use Rattle.std.proofs.Common.{◌≡◌, ℕ, zero, suc, Bool, not, List, [], ◌∷◌, length, get_or, is_some, Some, None, Option, sym, refl, ap, ◌∙◌}
+use Rattle.std.proofs.Common.{◌≡◌, ℕ, Bool, not, List, length, get_or, is_some, Some, None, Option, refl, ap, ◌∙◌}
+use Rattle.std.proofs.Math.ListN.{get_or-map}
 use Rattle.std.proofs.lemmas.List.{length-map}
 use Rattle.std.specs.Option.{option_map}
 use Rattle.arguments.specs.declared.written.ArgumentName.{ArgumentName}
 use Rattle.arguments.specs.First.{when, first, any_below, count_below}
-use Rattle.arguments.specs.Places.{named, late, goes, place}
+use Rattle.arguments.specs.Places.{named, late}
 use Rattle.arguments.specs.View.{spell, spelled}
 use Rattle.arguments.proofs.Firsts.{first_same, count_same}
 
@@ -13,9 +14,7 @@ named-at text None = refl
 named-at text (Some n) = refl
 
 pub spell-at : (text : List ℕ) (names : List (Option ArgumentName)) (i : ℕ) → get_or (spell text names) i None ≡ option_map (spelled text) (get_or names i None)
-spell-at text [] i = refl
-spell-at text (x ∷ xs) zero = refl
-spell-at text (x ∷ xs) (suc i) = spell-at text xs i
+spell-at text names i = get_or-map (option_map (spelled text)) names i None
 
 module _ (text : List ℕ) (names : List (Option ArgumentName)) where
   pub as_many : length (spell text names) ≡ length names
@@ -29,10 +28,6 @@ module _ (text : List ℕ) (names : List (Option ArgumentName)) where
 
   pub late_spelled : (n : ℕ) → first (late (spell text names)) n ≡ first (late names) n
   late_spelled n = first_same (late (spell text names)) (late names) n (λ i l. rw (named_spelled i, any_spelled i))
-
-  -- the place of an argument, from its name as it is handed in
-  pub place_spelled : (params : List (List ℕ)) (i : ℕ) → goes params i (option_map (spelled text) (get_or names i None)) ≡ place params (spell text names) i
-  place_spelled params i = sym (ap (goes params i) (spell-at text names i))
 
   pub count_spelled : (n : ℕ) → count_below (λ i. not (named (spell text names) i)) n ≡ count_below (λ i. not (named names i)) n
   count_spelled n = count_same (λ i. not (named (spell text names) i)) (λ i. not (named names i)) n (λ k l. ap not (named_spelled k))

@@ -1,5 +1,5 @@
 -- What the code's answers stand for. Assumes nothing.
-use Rattle.std.specs.Prelude.{List, take, Ok, Err, Result}
+use Rattle.std.specs.Prelude.{List, Ok, Err, Result}
 use Rattle.terms.specs.declared.Refusal.{Refusal}
 use Rattle.arguments.specs.declared.written.Argument.{Argument}
 use Rattle.arguments.specs.declared.resolved.Resolved.{Resolved}
@@ -7,7 +7,7 @@ use Rattle.arguments.specs.Places.{Outcome}
 
 -- the arguments by place
 abbrev pub listed : Resolved → List Argument
-listed r = take r.count r.items
+listed r = r.items
 
 -- the answer by place, or the refusal
 abbrev pub outcome : Result Resolved Refusal → Outcome

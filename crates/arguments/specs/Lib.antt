@@ -2,6 +2,7 @@ pub mod First
 pub mod Names
 pub mod View
 pub mod Places
+pub mod Called
 pub mod Gathering
 pub mod Standing
 pub mod Orders

@@ -1,82 +1,82 @@
 // Where an argument goes: by its name, or where it is written.
-ghost use Rattle.std.specs.Prelude.{◌≡◌, ◌<◌, false, length};
-ghost use Rattle.std.specs.Option.{option_map};
-ghost use Rattle.arguments.specs.Gathering.{claimed};
+ghost use Rattle.std.specs.Prelude.{◌≡◌, ◌<◌, length, IfOk};
+ghost use Rattle.terms.specs.Refusals.{refusal_of};
+ghost use Rattle.arguments.specs.Called.{params, names, name_of};
+ghost use Rattle.arguments.specs.First.{first};
+ghost use Rattle.arguments.specs.Gathering.{Assigned, claimed};
 ghost use Rattle.arguments.specs.Names.{matches, first_match};
-ghost use Rattle.arguments.specs.Places.{outside, goes};
-ghost use Rattle.arguments.specs.View.{bytes_of, spelled};
+ghost use Rattle.arguments.specs.Places.{clash, place};
 
-use crate::by_place::giver_of;
-use crate::written::ArgumentName;
-use terms::{Reason, Refusal};
+use crate::call::Call;
+use terms::{MOST_ARGUMENTS, Reason, Refusal};
 
-// A quoted name matches exactly, any other ignoring ASCII case.
-fn matches_parameter(name: &[u8], is_quoted: bool, param_name: &[u8]) -> bool
-    ensures { result ≡ matches (record { bytes = name.now; quoted = is_quoted }) param_name.now }
-{
-    if is_quoted {
-        name == param_name
-    } else {
-        name.eq_ignore_ascii_case(param_name)
+// A name as the text spells it.
+#[derive(Clone, Copy)]
+struct Spelling<'a> {
+    bytes: &'a [u8],
+    is_quoted: bool,
+}
+
+impl Spelling<'_> {
+    // A quoted name matches exactly, any other ignoring ASCII case.
+    fn matches(self, param_name: &[u8]) -> bool
+        ensures { result ≡ matches (name_of self.entry) param_name.now }
+    {
+        if self.is_quoted {
+            self.bytes == param_name
+        } else {
+            self.bytes.eq_ignore_ascii_case(param_name)
+        }
     }
 }
 
-// The first parameter that a name matches.
-fn parameter_index(name: &[u8], is_quoted: bool, param_names: &[&[u8]]) -> Option<usize>
-    ensures { result ≡ first_match (record { bytes = name.now; quoted = is_quoted }) (bytes_of param_names.now) }
-{
-    for k in 0..param_names.len() {
-        if matches_parameter(name, is_quoted, param_names[k]) {
-            return Some(k);
-        }
+impl Call<'_> {
+    // The first parameter that a name matches.
+    fn parameter_index(self, name: Spelling) -> Option<usize>
+        ensures { result ≡ first_match (name_of name.entry) (params self.entry) }
+    {
+        self.param_names
+            .iter()
+            .position(|param_name| name.matches(param_name))
     }
-    None
-}
 
-// Where an argument goes that is written at `i`: there, or to the first parameter that its name matches.
-fn place_of(
-    arg_name: &Option<ArgumentName>,
-    i: usize,
-    param_names: &[&[u8]],
-    text: &[u8],
-) -> Option<usize>
-    requires { outside text.now arg_name.now ≡ false }
-    ensures { result ≡ goes (bytes_of param_names.now) i (option_map (spelled text.now) arg_name.now) }
-{
-    match arg_name {
-        Some(name) => {
-            let bytes = &text[name.start..name.start + name.len];
-            parameter_index(bytes, name.is_quoted, param_names)
-        }
-        None => Some(i),
+    // Where the argument goes that is written at `i`: there, or to the first parameter that its name matches.
+    #[tactic(auto, using(crate::proofs::Formed::name_within))]
+    fn place_of(self, i: usize) -> Option<usize>
+        requires { i < length self.arg_names.now }
+        ensures { result ≡ place (params self.entry) (names self.entry) i }
+    {
+        let Some(name) = self.arg_names[i] else {
+            return Some(i);
+        };
+        self.parameter_index(Spelling {
+            bytes: &self.text[name.start..name.start + name.len],
+            is_quoted: name.is_quoted,
+        })
     }
-}
 
-// The place of the argument at `i`, or 25 where it has none, or 26 where one of the places before it is the same.
-pub(crate) fn claim_place(
-    arg_name: &Option<ArgumentName>,
-    i: usize,
-    param_names: &[&[u8]],
-    text: &[u8],
-    places: &[usize],
-) -> Result<usize, Refusal>
-    requires name { outside text.now arg_name.now ≡ false }
-    requires within { i < length places.now }
-    ensures { result ≡ claimed places.now i (goes (bytes_of param_names.now) i (option_map (spelled text.now) arg_name.now)) }
-{
-    match place_of(arg_name, i, param_names, text) {
-        None => Err(Refusal {
-            reason: Reason::UnknownParameter,
-            place: i,
-        }),
-        Some(place) => {
-            if giver_of(places, i, place).is_some() {
-                return Err(Refusal {
-                    reason: Reason::ParameterGivenTwice,
-                    place: i,
-                });
-            }
-            Ok(place)
+    // The place of the argument at `i`, or 25 where it has none, or 26 where an argument before it has that place.
+    fn claim_place(self, i: usize, places: &[usize; MOST_ARGUMENTS]) -> Result<usize, Refusal>
+        requires { i < length self.arg_names.now }
+        ensures { result ≡ claimed places.now i (place (params self.entry) (names self.entry) i) }
+    {
+        let place = self.place_of(i).ok_or(Reason::UnknownParameter.at(i))?;
+        if places[..i].contains(&place) {
+            return Err(Reason::ParameterGivenTwice.at(i));
         }
+        Ok(place)
+    }
+
+    // The place of each argument, or 25 or 26 for the first that has none or one that was given already.
+    pub(crate) fn assign_places(self) -> Result<[usize; MOST_ARGUMENTS], Refusal>
+        ensures refused { refusal_of result ≡ first (clash (params self.entry) (names self.entry)) (length self.entry.arg_names.now) }
+        ensures places { IfOk result (λ ps. Assigned (params self.entry) (names self.entry) (length self.entry.arg_names.now) ps) }
+    {
+        let mut places = [0; MOST_ARGUMENTS];
+        // By index, since each place is claimed against those before it.
+        for i in 0..self.arg_names.len() {
+            places[i] = self.claim_place(i, &places)?;
+        }
+        Ok(places)
     }
 }

@@ -1,24 +1,23 @@
 // Names to places: puts each argument of a call under its parameter.
 #![tactic(auto)]
 
-ghost use Rattle.std.specs.Prelude.{◌≡◌, ℕ, ◌<◌, ◌≤◌, false, not, length, IfOk, None, slice_index_or};
+ghost use Rattle.std.specs.Prelude.{◌≡◌, ◌<◌, not, length, IfSome, None, slice_index_or};
 ghost use Rattle.std.specs.List.{AllByRecursion};
 ghost use Rattle.terms.specs.Refusals.{refusal_of};
-ghost use Rattle.terms.specs.Limits.{most_arguments};
 ghost use Rattle.arguments.specs.Answers.{outcome};
-ghost use Rattle.arguments.specs.First.{first, any_below, count_below};
-ghost use Rattle.arguments.specs.Gathering.{Assigned};
-ghost use Rattle.arguments.specs.Places.{named, outside, malformed, late, clash, with_names};
+ghost use Rattle.arguments.specs.Called.{params, names};
+ghost use Rattle.arguments.specs.First.{first, first_below, any_below, count_below};
+ghost use Rattle.arguments.specs.Places.{named, outside, malformed, late, with_names};
 ghost use Rattle.arguments.specs.Resolution.{Resolution};
-ghost use Rattle.arguments.specs.View.{bytes_of, spell};
+ghost use Rattle.arguments.specs.View.{bytes_of};
 ghost use Rattle.arguments.specs.Worked.{Holds, table};
 
-use by_name::claim_place;
-use by_place::gather;
+use call::Call;
 use terms::{MOST_ARGUMENTS, Reason, Refusal};
 
 mod by_name;
 mod by_place;
+mod call;
 mod resolved;
 mod written;
 
@@ -29,34 +28,14 @@ pub use written::{Argument, ArgumentName};
 fn is_outside(arg_name: &Option<ArgumentName>, text: &[u8]) -> bool
     ensures { result ≡ outside text.now arg_name.now }
 {
-    match arg_name {
-        Some(name) => name.start > text.len() || name.len > text.len() - name.start,
-        None => false,
-    }
+    arg_name.is_some_and(|name| name.start > text.len() || name.len > text.len() - name.start)
 }
 
 // Whether one of the names does.
 fn has_name_outside(arg_names: &[Option<ArgumentName>], text: &[u8]) -> bool
     ensures { result ≡ any_below (λ i. outside text.now (slice_index_or arg_names.now i None)) (length arg_names.now) }
 {
-    for arg_name in arg_names {
-        if is_outside(arg_name, text) {
-            return true;
-        }
-    }
-    false
-}
-
-// Whether an argument has a name.
-fn has_name(arg_names: &[Option<ArgumentName>]) -> bool
-    ensures { result ≡ any_below (named arg_names.now) (length arg_names.now) }
-{
-    for arg_name in arg_names {
-        if arg_name.is_some() {
-            return true;
-        }
-    }
-    false
+    arg_names.iter().any(|arg_name| is_outside(arg_name, text))
 }
 
 // Refuses with 21: too many arguments, more or fewer names than arguments, or a name outside its text.
@@ -71,84 +50,72 @@ pub fn validate_arguments(
         || args.len() != arg_names.len()
         || has_name_outside(arg_names, text)
     {
-        return Err(Refusal {
-            reason: Reason::MalformedCall,
-            place: 0,
-        });
+        return Err(Reason::MalformedCall.into());
     }
     Ok(())
 }
 
-// Refuses with 23: arguments without a name come before those with one.
-fn validate_argument_order(arg_names: &[Option<ArgumentName>]) -> Result<(), Refusal>
-    ensures { refusal_of result ≡ first (late arg_names.now) (length arg_names.now) }
+// The first argument with a name.
+fn first_named(arg_names: &[Option<ArgumentName>]) -> Option<usize>
+    ensures value { result ≡ first_below (named arg_names.now) (length arg_names.now) }
+    ensures within { IfSome result (λ i. i < length arg_names.now) }
 {
-    let mut seen_named = false;
-    for (i, arg_name) in arg_names.iter().enumerate() {
-        match arg_name {
-            Some(_) => seen_named = true,
-            None => {
-                if seen_named {
-                    return Err(Refusal {
-                        reason: Reason::PositionalAfterNamed,
-                        place: i,
-                    });
-                }
-            }
+    arg_names.iter().position(|arg_name| arg_name.is_some())
+}
+
+// The first argument without one.
+fn first_unnamed(arg_names: &[Option<ArgumentName>]) -> Option<usize>
+    ensures value { result ≡ first_below (λ i. not (named arg_names.now i)) (length arg_names.now) }
+    ensures within { IfSome result (λ i. i < length arg_names.now) }
+{
+    arg_names.iter().position(|arg_name| arg_name.is_none())
+}
+
+impl Call<'_> {
+    // Refuses with 23: arguments without a name come before those with one.
+    fn validate_argument_order(self) -> Result<(), Refusal>
+        ensures { refusal_of result ≡ first (late self.entry.arg_names.now) (length self.entry.arg_names.now) }
+    {
+        let Some(named) = first_named(self.arg_names) else {
+            return Ok(());
+        };
+        match first_unnamed(&self.arg_names[named..]) {
+            Some(behind) => Err(Reason::PositionalAfterNamed.at(named + behind)),
+            None => Ok(()),
         }
     }
-    Ok(())
-}
 
-// How many arguments have no name.
-fn positional_count(arg_names: &[Option<ArgumentName>]) -> usize
-    ensures { result ≡ count_below (λ i. not (named arg_names.now i)) (length arg_names.now) }
-{
-    let mut count = 0;
-    for arg_name in arg_names {
-        if arg_name.is_none() {
-            count += 1;
+    // How many arguments have no name.
+    fn positional_count(self) -> usize
+        ensures { result ≡ count_below (λ i. not (named self.entry.arg_names.now i)) (length self.entry.arg_names.now) }
+    {
+        self.arg_names
+            .iter()
+            .filter(|arg_name| arg_name.is_none())
+            .count()
+    }
+
+    // Puts each argument under its parameter, where one of them has a name.
+    fn reorder_named_arguments(self) -> Result<Resolved, Refusal>
+        ensures { outcome result ≡ with_names (params self.entry) (names self.entry) self.entry.args.now }
+    {
+        if self.positional_count() > self.param_names.len() {
+            return Err(Reason::TooManyPositional.into());
         }
+        let places = self.assign_places()?;
+        self.gather(&places)
     }
-    count
-}
 
-// The place of each argument, or 25 or 26 for the first that has none or one that was given already.
-fn assign_places(
-    param_names: &[&[u8]],
-    arg_names: &[Option<ArgumentName>],
-    text: &[u8],
-) -> Result<[usize; MOST_ARGUMENTS], Refusal>
-    requires few { length arg_names.now ≤ most_arguments }
-    requires within { (i : ℕ) → i < length arg_names.now → outside text.now (slice_index_or arg_names.now i None) ≡ false }
-    ensures refused { refusal_of result ≡ first (clash (bytes_of param_names.now) (spell text.now arg_names.now)) (length arg_names.now) }
-    ensures places { IfOk result (λ ps. Assigned (bytes_of param_names.now) (spell text.now arg_names.now) (length arg_names.now) ps) }
-{
-    let mut places = [0; MOST_ARGUMENTS];
-    for (i, arg_name) in arg_names.iter().enumerate() {
-        places[i] = claim_place(arg_name, i, param_names, text, &places)?;
+    // The arguments by place.
+    fn resolve(self) -> Result<Resolved, Refusal>
+        ensures { Resolution (params self.entry) self.entry.text.now self.entry.args.now self.entry.arg_names.now (outcome result) }
+    {
+        if first_named(self.arg_names).is_none() {
+            return Ok(self.as_written());
+        }
+        self.validate_argument_order()?;
+        self.reorder_named_arguments()
     }
-    Ok(places)
-}
-
-// Puts each argument under its parameter, where one of them has a name.
-fn reorder_named_arguments(
-    param_names: &[&[u8]],
-    args: &[Argument],
-    arg_names: &[Option<ArgumentName>],
-    text: &[u8],
-) -> Result<Resolved, Refusal>
-    requires { malformed text.now args.now arg_names.now ≡ None }
-    ensures { outcome result ≡ with_names (bytes_of param_names.now) (spell text.now arg_names.now) args.now }
-{
-    if positional_count(arg_names) > param_names.len() {
-        return Err(Refusal {
-            reason: Reason::TooManyPositional,
-            place: 0,
-        });
-    }
-    let places = assign_places(param_names, arg_names, text)?;
-    gather(args, &places)
 }
 
 // The arguments of a call by place.
@@ -166,12 +133,7 @@ pub fn resolve_function_arguments(
 ) -> Result<Resolved, Refusal>
     ensures { Resolution (bytes_of param_names.now) text.now args.now arg_names.now (outcome result) }
 {
-    validate_arguments(args, arg_names, text)?;
-    if !has_name(arg_names) {
-        return Ok(Resolved::as_written(args));
-    }
-    validate_argument_order(arg_names)?;
-    reorder_named_arguments(param_names, args, arg_names, text)
+    Call::new(param_names, args, arg_names, text)?.resolve()
 }
 
 // How many worked cases there are: a table of calls, each with the outcome that the definition gives it.

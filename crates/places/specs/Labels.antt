@@ -1,5 +1,5 @@
 -- What labels are written with. Assumes nothing.
-use Rattle.std.specs.Prelude.{ℕ, cond, List, length, take, Ok, Err, codes, Result, nat_lt}
+use Rattle.std.specs.Prelude.{ℕ, cond, List, length, Ok, Err, codes, Result, nat_lt}
 use Rattle.terms.specs.Limits.{longest_label}
 use Rattle.terms.specs.Refusals.{refusal}
 use Rattle.terms.specs.declared.Reason.TheVariants.{LabelTooLong}
@@ -8,7 +8,7 @@ use Rattle.places.specs.declared.label.Label.{Label}
 
 -- the bytes of a label
 abbrev pub spelled : Label → List ℕ
-spelled l = take l.len l.bytes
+spelled l = l.bytes
 
 -- the bytes of the label that was made, or the refusal
 abbrev pub written : Result Label Refusal → Result (List ℕ) Refusal

@@ -1,3 +1,4 @@
 pub mod Labels
 pub mod Records
 pub mod Finding
+pub mod Exactly

@@ -1,16 +1,14 @@
-// A label: at most 64 bytes, and zeros behind them, so that labels of the same bytes are the same.
-ghost use Rattle.std.specs.Prelude.{◌≡◌, ◌-◌, ◌≤◌, length, drop, replicate};
+// A label: a text of at most 64 bytes.
+ghost use Rattle.std.specs.Prelude.{◌≤◌, length};
 ghost use Rattle.terms.specs.Limits.{longest_label};
 
+use fixed::FixedVec;
 use terms::LONGEST_LABEL;
 
 mod writing;
 
-#[derive(Clone, Copy)]
+#[derive(Clone, Copy, PartialEq, Eq)]
 pub struct Label {
-    bytes: [u8; LONGEST_LABEL],
-    len: u8,
-    ghost size: { length bytes ≡ longest_label },
-    ghost short: { len ≤ longest_label },
-    ghost padded: { drop len bytes ≡ replicate (longest_label - len) 0 },
+    bytes: FixedVec<u8, LONGEST_LABEL>,
+    ghost short: { length bytes ≤ longest_label },
 }

@@ -7,6 +7,7 @@ use terms::Kind;
 
 #[derive(Clone, Copy, PartialEq, Eq)]
 pub struct TypeRecord {
+    // As it is handed in: a number that no kind has can be refused.
     pub kind: u8,
     pub unit: u8,
     pub precision: u8,
@@ -24,7 +25,7 @@ impl TypeRecord {
         ensures { result ≡ plain (kind_number kind) }
     {
         TypeRecord {
-            kind: kind.number(),
+            kind: kind.into(),
             unit: 0,
             precision: 0,
             scale: 0,

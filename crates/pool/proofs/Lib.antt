@@ -1,9 +1,10 @@
 pub mod Places
 pub mod Stamps
 pub mod Vouched
+pub mod Alike
+pub mod Pushed
 pub mod Labelled
+pub mod Growing
 pub mod Typed
-pub mod Beginning
 pub mod Showing
 pub mod Rowed
-pub mod Growing

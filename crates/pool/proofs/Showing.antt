@@ -1,29 +1,30 @@
 -- What a view of a memory shows. Assumes nothing.
-use Rattle.std.proofs.Common.{◌≡◌, ℕ, ◌≤◌, Bool, true, false, cond, List, length, take, MatchBool, sym, refl, ap, ◌∙◌, arith}
+use Rattle.std.proofs.Common.{◌≡◌, ◌≤◌, true, List, length, sym, ap, ◌∙◌, arith}
 use Rattle.std.proofs.lemmas.List.{length-take-le}
 use Rattle.places.specs.declared.record.TypeRecord.{TypeRecord}
 use Rattle.types.specs.declared.view.View.{View}
 use Rattle.types.specs.Trees.{tree}
-use Rattle.types.specs.Views.{records, size}
+use Rattle.types.specs.Facts.{Sound, Apart}
+use Rattle.types.proofs.Fitting.{sound-take}
+use Rattle.pool.proofs.Places.{apart_take}
+use Rattle.types.specs.Views.{records}
 use Rattle.types.proofs.Meanings.{tree-take}
 use Rattle.pool.specs.declared.store.Counts.{Counts}
 use Rattle.pool.specs.declared.store.Memory.{Memory}
+use Rattle.pool.specs.Slots.{live}
 use Rattle.pool.specs.Held.{vouches}
 use Rattle.pool.specs.Steps.{Shows}
 use Rattle.pool.proofs.Vouched.{vouch}
 
 -- the live types of counts that are vouched for
-pub shows : (m : Memory) (c : Counts) (v : View) → vouches m c ≡ true → records v ≡ take c.types m.types.now → v.labels ≡ m.labels_high → Shows m c v
+pub shows : (m : Memory) (c : Counts) (v : View) → vouches m c ≡ true → records v ≡ live m.types c.types → v.labels ≡ m.labels.high → Shows m c v
 shows m c v h e l =
     let w = vouch m c h in
-    let room = m.types_room in
-    let len : c.types ≤ length m.types.now = omega (arith, w.types) in
-    record { labels = l ∙ sym w.labels; types = ap length e ∙ length-take-le c.types m.types.now len; value = λ n lt. ap (λ (rs : List TypeRecord). tree rs n) e ∙ tree-take m.types.now c.types n len lt }
+    let len : c.types ≤ length m.types.places.now = omega (arith, w.types, m.types.room) in
+    record { labels = l ∙ sym w.labels; types = ap length e ∙ length-take-le c.types m.types.places.now len; value = λ n lt. ap (λ (rs : List TypeRecord). tree rs n) e ∙ tree-take m.types.places.now c.types n len lt }
 
--- they are shown where the counts are vouched for, and else nothing is
-pub shows_when : (m : Memory) (c : Counts) (v : View) (n : ℕ) → n ≡ cond (vouches m c) c.types 0 → records v ≡ take n m.types.now → v.labels ≡ m.labels_high → MatchBool (vouches m c) (Shows m c v) (size v ≡ 0)
-shows_when m c v n k e l = go (vouches m c) refl k
-  where
-    go : (b : Bool) → vouches m c ≡ b → n ≡ cond b c.types 0 → MatchBool b (Shows m c v) (size v ≡ 0)
-    go true h q = shows m c v h (e ∙ ap (λ (j : ℕ). take j m.types.now) q) l
-    go false h q = ap length (e ∙ ap (λ (j : ℕ). take j m.types.now) q)
+pub live_sound : (m : Memory) (c : Counts) → vouches m c ≡ true → Sound m.labels.high (live m.types c.types) (length (live m.types c.types))
+live_sound m c v = sound-take m.labels.high m.types.places.now m.types.high c.types m.types_sound (vouch m c v).types (omega (arith, m.types.room))
+
+pub live_apart : (m : Memory) (c : Counts) → vouches m c ≡ true → Apart (live m.types c.types) (length (live m.types c.types))
+live_apart m c v = apart_take m.types.places.now m.types.high c.types m.types_apart (vouch m c v).types (omega (arith, m.types.room))

@@ -24,4 +24,4 @@ Rising xs n = (i j : ℕ) → (i < j) × (j < n) → stamp_at xs i ≤ stamp_at 
 
 -- the counts with so many types
 abbrev pub back : Counts → ℕ → Counts
-back c n = record { labels = c.labels; types = n; functions = c.functions; entries = c.entries }
+back c n = record c { types = n }

@@ -35,8 +35,8 @@ pub record Well (m : Memory) (c : Counts) : Type 0 where
   pub types_flat : (n : ℕ) → n < c.types → depth (means m n) ≤ deepest_type
   pub types_calm : (n : ℕ) → n < c.types → Calm (means m n)
   -- functions and entries were written when no more types were live than now
-  pub functions_over : (i : ℕ) → i < c.functions → stamp_at m.functions.now i ≤ c.types
-  pub entries_over : (i : ℕ) → i < c.entries → stamp_at m.entries.now i ≤ c.types
+  pub functions_over : (i : ℕ) → i < c.functions → stamp_at m.functions.places.now i ≤ c.types
+  pub entries_over : (i : ℕ) → i < c.entries → stamp_at m.entries.places.now i ≤ c.types
 
 -- k is the number of x in `after`, which is `before`, or `before` with x at its end where it was not there
 pub record Interned {A : Type 0} (before : List A) (x : A) (k : ℕ) (after : List A) : Type 0 where

@@ -1,4 +1,5 @@
 pub mod Facts
+pub mod Slots
 pub mod Held
 pub mod Reasons
 pub mod Laws

@@ -2,7 +2,7 @@
 use Rattle.std.specs.Prelude.{ℕ, ◌-◌, Bool, false, not, ◌&&◌, ◌||◌, List, [], ◌∷◌, ◌++◌, length, Option, ◌==◌, nat_le, nat_lt}
 use Rattle.std.specs.Str.{bytes_eq}
 use Rattle.terms.specs.declared.Reason.{Reason}
-use Rattle.terms.specs.declared.Reason.TheVariants.{BufferTooSmall, LabelTooLong, LabelsFull, TypesFull, FunctionsFull, PlanFull, TooFewFreeTypes, NothingToTakeBack, NothingThere}
+use Rattle.terms.specs.declared.Reason.TheVariants.{BufferTooSmall, LabelTooLong, LabelsFull, TypesFull, TooFewFreeTypes, NothingToTakeBack, NothingThere}
 use Rattle.terms.specs.Refusals.{first}
 use Rattle.terms.specs.Limits.{longest_label, room_for_call}
 use Rattle.places.specs.declared.record.TypeRecord.{TypeRecord}
@@ -35,13 +35,9 @@ abbrev pub why_type : Memory → Counts → TypeRecord → Option Reason
 why_type m c r =
     first (strange m c ∷ (tests c.labels c.types (means m) r ++ ((not (among same (grown (means m) r) (types_of m c)) && nat_le (rooms_of m).types c.types, TypesFull) ∷ [])))
 
--- a function: the counts are strange, or no place is left
-abbrev pub why_function : Memory → Counts → Option Reason
-why_function m c = first (strange m c ∷ ((nat_le (rooms_of m).functions c.functions, FunctionsFull) ∷ []))
-
--- an entry: the counts are strange, or no place is left
-abbrev pub why_entry : Memory → Counts → Option Reason
-why_entry m c = first (strange m c ∷ ((nat_le (rooms_of m).entries c.entries, PlanFull) ∷ []))
+-- a row behind n of them, of which there is room for so many: the counts are strange, or no place is left
+abbrev pub why_full : Memory → Counts → ℕ → ℕ → Reason → Option Reason
+why_full m c room n full = first (strange m c ∷ ((nat_le room n, full) ∷ []))
 
 -- a count taken back: the counts are strange, or it is 0
 abbrev pub why_back : Memory → Counts → ℕ → Option Reason

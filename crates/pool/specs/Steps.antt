@@ -1,21 +1,17 @@
 -- What each step on memory and counts comes to. Assumes nothing.
-use Rattle.std.specs.Prelude.{◌≡◌, ℕ, ◌<◌, true, List, take, Some, None, Option, Result, MatchResult}
+use Rattle.std.specs.Prelude.{◌≡◌, ℕ, ◌<◌, List, Some, Option, Result, MatchResult}
 use Rattle.std.specs.List.{slice_get}
-use Rattle.places.specs.declared.label.Label.{Label}
-use Rattle.places.specs.Labels.{spelled}
-use Rattle.places.specs.Finding.{Finds}
 use Rattle.terms.specs.declared.Reason.{Reason}
 use Rattle.terms.specs.declared.Refusal.{Refusal}
 use Rattle.terms.specs.Refusals.{refusal_of, plainly}
 use Rattle.places.specs.declared.record.TypeRecord.{TypeRecord}
 use Rattle.types.specs.Trees.{grown}
-use Rattle.types.specs.Checks.{fit}
 use Rattle.types.specs.declared.view.View.{View}
 use Rattle.types.specs.Views.{size, meant}
 use Rattle.pool.specs.declared.store.Counts.{Counts}
 use Rattle.pool.specs.declared.store.Memory.{Memory}
 use Rattle.pool.specs.declared.store.Trial.{Trial}
-use Rattle.pool.specs.Held.{vouches, labels_of, records_of, types_of, means, seen, with_labels, rooms_of}
+use Rattle.pool.specs.Held.{labels_of, records_of, types_of, means, seen, rooms_of}
 use Rattle.pool.specs.Reasons.{why_label, why_type}
 use Rattle.pool.specs.Laws.{Well, Interned, Grows}
 
@@ -24,31 +20,15 @@ pub record Step (why : Option Reason) (m : Memory) (c : Counts) (a : Result ℕ 
   pub refused : refusal_of a ≡ plainly why
   pub done : MatchResult a Done (λ _. (c' ≡ c) × (m' ≡ m))
 
--- a label of those bytes that may be added, and its place if it is there
-pub record LabelVetted (m : Memory) (c : Counts) (bs : List ℕ) (l : Label) (place : Option ℕ) : Type 0 where
-  pub bytes : spelled l ≡ bs
-  pub vouched : vouches m c ≡ true
-  pub found : Finds (take c.labels m.labels.now) l place
-  pub number : Finds (labels_of m c) bs place
-  pub room : place ≡ None → c.labels < (rooms_of m).labels
-
 -- the label of those bytes has the number k
 pub record LabelAdded (m : Memory) (c : Counts) (bs : List ℕ) (k : ℕ) (m' : Memory) (c' : Counts) : Type 0 where
   pub number : Interned (labels_of m c) bs k (labels_of m' c')
-  pub frame : seen m' c' ≡ with_labels (seen m c) (labels_of m' c')
+  pub frame : seen m' c' ≡ record (seen m c) { labels = labels_of m' c' }
   pub rooms : rooms_of m' ≡ rooms_of m
   pub well : Well m' c'
 
 abbrev pub LabelAdd : Memory → Counts → List ℕ → Result ℕ Refusal → Memory → Counts → Type 0
 LabelAdd m c bs a m' c' = Step (why_label m c bs) m c a m' c' (λ k. LabelAdded m c bs k m' c')
-
--- a record that may be added, and its place if it is there
-pub record TypeVetted (m : Memory) (c : Counts) (r : TypeRecord) (place : Option ℕ) : Type 0 where
-  pub vouched : vouches m c ≡ true
-  pub fits : fit c.labels c.types (means m) r ≡ true
-  pub found : Finds (records_of m c) r place
-  pub number : Finds (types_of m c) (grown (means m) r) place
-  pub room : place ≡ None → c.types < (rooms_of m).types
 
 -- the type of that record has the number k
 pub record TypeAdded (m : Memory) (c : Counts) (r : TypeRecord) (k : ℕ) (m' : Memory) (c' : Counts) : Type 0 where

@@ -1,60 +1,51 @@
 -- From the tokens of a line to what its bytes say. Assumes nothing.
-use Rattle.std.proofs.Common.{◌≡◌, ℕ, false, cond, List, [], map, length, IfErr, Some, None, Err, vec_items, Result, sym, ap, ◌∙◌, subst, arith}
+use Rattle.std.proofs.Common.{◌≡◌, ℕ, false, cond, List, [], map, length, Some, Ok, Err, vec_items, Result, sym, ap, ◌∙◌, subst}
 use Rattle.script.specs.declared.fault.Fault.{Fault}
 use Rattle.script.specs.declared.fault.Fault.TheVariants.{Memory, Stray, Escape, Large, Unfinished, Expected}
 use Rattle.script.specs.declared.tokens.Tokens.{Tokens}
 use Rattle.script.specs.declared.lines.Line.{Line}
-use Rattle.script.specs.declared.reads.ReadLine.{ReadLine}
+use Rattle.script.specs.declared.lines.Line.TheVariants as line
 use Rattle.script.specs.Tokens.{lex}
-use Rattle.script.specs.Seen.{seen, Refuses, Expects, Listed, Faulty}
-use Rattle.script.specs.Lines.{form, Found, Unspelled}
-use Rattle.script.specs.Whole.{comment, says, shown, Reads, Unread, Answers}
+use Rattle.script.specs.Seen.{seen, Refuses, Expects, Listed}
+use Rattle.script.specs.Lines.{form, line_text, Has, Lined}
+use Rattle.script.specs.Whole.{comment, says, shown, LineInside, Answers}
 use Rattle.script.proofs.Unmapping.{form_back, form-seen}
 use Rattle.script.proofs.Insides.{inside}
 
--- what is promised of a line that is read
-abbrev pub Told : List ℕ → Result ReadLine Fault → Type 0
-Told line r = Answers line r × IfErr r (Faulty line)
-
-expected : (line : List ℕ) (e : Fault) {P : Type 0} → (P → Unread line) → Expects e P → Refuses e (Unread line) × Faulty line e
-expected line Memory f p = (tt, tt)
-expected line (Stray q c) f p = absurd p
-expected line (Escape q c) f p = absurd p
-expected line (Large q) f p = absurd p
-expected line Unfinished f p = absurd p
-expected line (Expected what) f p = (f p, tt)
-
--- a refusal of the tokens, handed on
-pub answers_none : (line : List ℕ) (r : Result ReadLine Fault) (e y : Fault) {P : Type 0} → r ≡ Err y → y ≡ e → (P → Unread line) → Expects e P → Told line r
-answers_none line r e y p q f n = subst (Told line) (sym (p ∙ ap Err q)) (expected line e f n)
-
-refuses_more : (e : Fault) {P Q : Type 0} → (P → Q) → Refuses e P → Refuses e Q
-refuses_more Memory f p = tt
-refuses_more (Stray place byte) f p = f p
-refuses_more (Escape place byte) f p = f p
-refuses_more (Large place) f p = f p
-refuses_more Unfinished f p = f p
-refuses_more (Expected what) f p = f p
+-- what the tokens lack is refused
+expected : (e : Fault) {P Q : Type 0} → (P → Q) → Expects e P → Refuses e Q
+expected Memory f p = tt
+expected (Stray q c) f p = absurd p
+expected (Escape q c) f p = absurd p
+expected (Large q) f p = absurd p
+expected Unfinished f p = absurd p
+expected (Expected what) f p = f p
 
 -- no comment says what its tokens are
-pub says-lex : (line : List ℕ) → false ≡ comment line → says line ≡ lex line
+says-lex : (line : List ℕ) → false ≡ comment line → says line ≡ lex line
 says-lex line e = ap (λ b. cond b (Some []) (lex line)) (sym e)
 
--- a refusal of the bytes, handed on
-pub answers_stuck : (line : List ℕ) (r : Result ReadLine Fault) (e y : Fault) → r ≡ Err y → y ≡ e → false ≡ comment line → Refuses e (lex line ≡ None) → Faulty line e → Told line r
-answers_stuck line r e y p q n h f =
-    subst (Told line) (sym (p ∙ ap Err q)) (refuses_more e (λ none text g k. let z : ◌≡◌ {A = ℕ} 0 1 = cc (none, says-lex line n, k) in omega arith) h, f)
+-- what the bytes say is shown through a text, and lies within it
+abbrev Shows : List ℕ → Line → List ℕ → Type 0
+Shows bytes l text = (says bytes ≡ Some (shown text (form l))) × LineInside (length text) l
 
-pub unread : (line : List ℕ) (t : Tokens) → false ≡ comment line → Listed (lex line) t → Unspelled (vec_items t.text) (vec_items t.tokens) → Unread line
-unread line t n h u text f e =
-    let same : map (seen (vec_items t.text)) (vec_items t.tokens) ≡ shown text f = cc (h.value, says-lex line n) in
-    let g = form_back (vec_items t.text) text f (vec_items t.tokens) same in
-    u g.0 g.1
+-- the text is the line's own
+owned : (bytes text : List ℕ) (l : Line) → Has text l → Shows bytes l text → Shows bytes l (line_text l)
+owned bytes text line.Blank e s = s
+owned bytes text (line.Function f) e s = subst (Shows bytes (line.Function f)) (sym e) s
+owned bytes text (line.Arguments a) e s = subst (Shows bytes (line.Arguments a)) (sym e) s
 
-pub read : (line : List ℕ) (t : Tokens) (l : Line) → false ≡ comment line → Listed (lex line) t → Found (vec_items t.text) (vec_items t.tokens) l → Reads line (record { text = t.text; line = l })
-read line t l n h f =
-    record {
-      value = says-lex line n ∙ h.value ∙ ap Some (form-seen (vec_items t.text) (form l) (vec_items t.tokens) f.value);
-      len = f.len;
-      within = inside (vec_items t.text) (length (vec_items t.text)) l (vec_items t.tokens) h.within f.len f.value;
-    }
+-- what is promised of a line, from its tokens
+pub answered : (bytes : List ℕ) (t : Tokens) (r : Result Line Fault) → false ≡ comment bytes → Listed (lex bytes) t → Lined (vec_items t.text) (vec_items t.tokens) r → Answers bytes r
+answered bytes t (Ok l) n h f =
+    let text = vec_items t.text in
+    let ts = vec_items t.tokens in
+    let s = owned bytes text l f.own (says-lex bytes n ∙ h.value ∙ ap Some (form-seen text (form l) ts f.value), inside text (length text) l ts h.within f.len f.value) in
+    record { value = s.0; len = f.len; within = s.1 }
+answered bytes t (Err e) n h u =
+    let text = vec_items t.text in
+    let ts = vec_items t.tokens in
+    expected e (λ un other f s.
+    let same : map (seen text) ts ≡ shown other f = cc (h.value, says-lex bytes n, s) in
+    let g = form_back text other f ts same in
+    un g.0 g.1) u

@@ -1,20 +1,18 @@
 -- A line by its keyword, and arguments apart from their names. Assumes nothing.
-use Rattle.std.proofs.Common.{◌≡◌, ℕ, ◌+◌, ◌<◌, List, [], ◌∷◌, ◌++◌, map, length, get_or, take, vec_items, sym, refl, ap, ◌∙◌, subst, arith}
-use lib.ListN.{length-map}
+use Rattle.std.proofs.Common.{◌≡◌, ℕ, List, [], ◌∷◌, map, length, vec_items, sym, refl, ap, ◌∙◌, subst}
+use Rattle.std.proofs.lemmas.List.{length-map}
 use Rattle.std.specs.List.{AllByRecursion}
-use Rattle.std.proofs.lemmas.List.{map_more}
 use Rattle.script.specs.declared.tokens.Token.{Token}
 use Rattle.script.specs.declared.items.Written.{Written}
 use Rattle.script.specs.declared.lines.Keyword.{Keyword}
 use Rattle.script.specs.declared.lines.Keyword.TheVariants as keyword
 use Rattle.script.specs.declared.lines.ArgumentsLine.{ArgumentsLine}
 use Rattle.script.specs.declared.lines.Line.TheVariants as line
-use Rattle.script.specs.Seen.{Within}
 use Rattle.script.specs.Spelling.{spelled_argument}
 use Rattle.script.specs.Lines.{blank, function, arguments, Says, spelled_named, argument, name_in, paired, Found, Unspelled}
 
 pub no_keyword : (text : List ℕ) (ts : List Token) (t : Token) (rest : List Token) → ts ≡ t ∷ rest → ((k : Keyword) → Says text t k → ⊥) → Unspelled text ts
-no_keyword text ts t rest e n blank s = let z : ◌≡◌ {A = ℕ} 0 1 = cc in omega arith
+no_keyword text ts t rest e n blank s = cc
 no_keyword text ts t rest e n (function m ps) s = let z : s.0 ≡ t = cc s.2 in n keyword.Function (subst (λ x. Says text x keyword.Function) z s.1)
 no_keyword text ts t rest e n (arguments m ws) s = let z : s.0 ≡ t = cc s.2 in n keyword.Arguments (subst (λ x. Says text x keyword.Arguments) z s.1)
 
@@ -27,17 +25,11 @@ zeros [] = tt
 zeros (w ∷ ws) = (refl, zeros ws)
 
 -- the arguments and the names together are what was written
-pub arguments-found : (text : List ℕ) (t : Token) (rest : List Token) (ws : List Written) (a : ArgumentsLine) → Says text t keyword.Arguments → rest ≡ spelled_named spelled_argument a.name ws → vec_items a.args ≡ map argument ws → vec_items a.names ≡ map name_in ws → Found text (t ∷ rest) (line.Arguments a)
-arguments-found text t rest ws a s e p q =
+pub arguments-found : (text : List ℕ) (t : Token) (rest : List Token) (ws : List Written) (a : ArgumentsLine) → Says text t keyword.Arguments → rest ≡ spelled_named spelled_argument a.name ws → vec_items a.args ≡ map argument ws → vec_items a.names ≡ map name_in ws → vec_items a.text ≡ text → Found text (t ∷ rest) (line.Arguments a)
+arguments-found text t rest ws a s e p q o =
     let back : ws ≡ paired (vec_items a.args) (vec_items a.names) = sym ((λ i. paired (p i) (q i)) ∙ paired-back ws) in
     record {
       value = (t, s, ap (λ r. t ∷ r) (e ∙ ap (spelled_named spelled_argument a.name) back));
       len = (ap length q ∙ length-map ws name_in ∙ sym (ap length p ∙ length-map ws argument), subst (AllByRecursion (λ x. x.type_number ≡ 0)) (sym p) (zeros ws));
+      own = o;
     }
-
--- one element more of a list that is mapped
-pub mapped_more : {X Y : Type 0} (f : X → Y) (ws : List X) (i : ℕ) (d w : X) (ys zs : List Y) → i < length ws → w ≡ get_or ws i d → ys ≡ map f (take i ws) → zs ≡ ys ++ f w ∷ [] → zs ≡ map f (take (i + 1) ws)
-mapped_more f ws i d w ys zs h g e p = p ∙ (λ j. e j ++ f (g j) ∷ []) ∙ sym (map_more f ws i d h)
-
-pub first-within : (n : ℕ) (ts : List Token) (t : Token) (rest : List Token) → ts ≡ t ∷ rest → AllByRecursion (Within n) ts → Within n t
-first-within n ts t rest e h = (subst (AllByRecursion (Within n)) e h).0

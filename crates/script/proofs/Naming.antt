@@ -1,25 +1,17 @@
 -- A name and a list that end the line. Assumes nothing.
-use Rattle.std.proofs.Common.{◌≡◌, ℕ, List, [], ◌∷◌, ◌++◌, length, Err, Result, sym, ap, ◌∙◌, subst, append_assoc, append-nil, arith}
-use Rattle.std.proofs.lemmas.List.{nil_from_length}
-use Rattle.script.specs.declared.fault.Fault.{Fault}
+use Rattle.std.proofs.Common.{◌≡◌, List, [], ◌∷◌, ◌++◌, length, sym, ap, ◌∙◌, append_assoc, append-nil}
 use Rattle.script.specs.declared.tokens.Token.{Token}
 use Rattle.script.specs.declared.items.Text.{Text}
-use Rattle.script.specs.Seen.{Expects}
-use Rattle.script.specs.Spelling.{text_token, spelled_text, tail, items, spelled_list, Apart, Foreign}
-use Rattle.script.specs.Lines.{spelled_named, Named}
-use Rattle.script.proofs.Runs.{expects_more}
-
--- a refusal that is handed on
-pub named_none : {X : Type 0} (spelled : X → List Token) (ts : List Token) (xs : List X) (r : Result Text Fault) (e y : Fault) {P : Type 0} → r ≡ Err y → y ≡ e → (P → (n : Text) (ys : List X) → ts ≡ spelled_named spelled n ys → ⊥) → Expects e P → Named spelled ts xs r
-named_none spelled ts xs r e y p q f n = subst (Named spelled ts xs) (sym (p ∙ ap Err q)) (expects_more e f n)
+use Rattle.script.specs.Spelling.{text_token, tail, items, spelled_list, Apart, Foreign}
+use Rattle.script.specs.Lines.{spelled_named}
 
 module _ {X : Type 0} (spelled : X → List Token) (apart : Apart spelled) where
   -- what follows the rest of a list is told by the tokens
   tails_only : (xs ys : List X) (a b : List Token) → tail spelled xs ++ a ≡ tail spelled ys ++ b → a ≡ b
   unfolding tail
   tails_only [] [] a b e = cc
-  tails_only [] (y ∷ ys) a b e = let z : ◌≡◌ {A = ℕ} 0 1 = cc in absurd (omega arith)
-  tails_only (x ∷ xs) [] a b e = let z : ◌≡◌ {A = ℕ} 0 1 = cc in absurd (omega arith)
+  tails_only [] (y ∷ ys) a b e = absurd cc
+  tails_only (x ∷ xs) [] a b e = absurd cc
   tails_only (x ∷ xs) (y ∷ ys) a b e =
       let h : (spelled x ++ tail spelled xs) ++ a ≡ (spelled y ++ tail spelled ys) ++ b = cc in
       tails_only xs ys a b (apart.only x y _ _ (sym (append_assoc (spelled x) (tail spelled xs) a) ∙ h ∙ append_assoc (spelled y) (tail spelled ys) b)).1
@@ -34,13 +26,6 @@ module _ {X : Type 0} (spelled : X → List Token) (apart : Apart spelled) where
   -- what follows a list is told by the tokens
   lists_only : (xs ys : List X) (a b : List Token) → spelled_list spelled xs ++ a ≡ spelled_list spelled ys ++ b → a ≡ b
   lists_only xs ys a b e = let h : items spelled xs ++ a ≡ items spelled ys ++ b = cc in items_only xs ys a b h
-
-  pub named : (ts after rest : List Token) (n : Text) (xs : List X) → ts ≡ text_token n ∷ after → after ≡ spelled_list spelled xs ++ rest → length rest ≡ 0 → ts ≡ spelled_named spelled n xs
-  named ts after rest n xs e h z =
-      e ∙ ap (λ r. text_token n ∷ r) (h ∙ ap (λ r. spelled_list spelled xs ++ r) (nil_from_length rest z) ∙ append-nil (spelled_list spelled xs))
-
-  pub no_name : (ts : List Token) → Foreign spelled_text ts → (n : Text) (ys : List X) → ts ≡ spelled_named spelled n ys → ⊥
-  no_name ts f n ys e = f n (spelled_list spelled ys) e
 
   pub no_list : (ts after : List Token) (n : Text) → ts ≡ text_token n ∷ after → Foreign (spelled_list spelled) after → (m : Text) (ys : List X) → ts ≡ spelled_named spelled m ys → ⊥
   no_list ts after n e f m ys h =

@@ -1,16 +1,8 @@
 -- A list of items, read one after the other. Assumes nothing.
 use Rattle.script.specs.declared.tokens.Token.{Token}
-use Rattle.script.specs.declared.tokens.Token.TheVariants.{Open, Close, Comma}
-use Rattle.script.specs.Spelling.{tail, items, spelled_list, Apart, Foreign}
-use Rattle.std.proofs.Common.{◌≡◌, ℕ, ◌-◌, ◌<◌, ◌≤◌, List, [], ◌∷◌, ◌++◌, length, get_or, take, drop, sym, refl, ap, ◌∙◌, subst, append_assoc, arith, length-append}
-use Rattle.std.proofs.lemmas.List.{take_rest, nil_from_length}
-
-pub first_of : {X : Type 0} (xs : List X) (d : X) → 0 < length xs → xs ≡ get_or xs 0 d ∷ take (length xs - 1) (drop 1 xs)
-first_of [] d h = absurd (omega arith)
-first_of (x ∷ xs) d h = ap (λ r. x ∷ r) (sym (take_rest (x ∷ xs) 1))
-
-pub none_of : {X : Type 0} (xs : List X) → length xs ≤ 0 → xs ≡ []
-none_of xs h = nil_from_length xs (omega arith)
+use Rattle.script.specs.declared.tokens.Token.TheVariants.{Close, Comma}
+use Rattle.script.specs.Spelling.{tail, spelled_list, Apart, Foreign}
+use Rattle.std.proofs.Common.{◌≡◌, ℕ, List, [], ◌∷◌, ◌++◌, sym, refl, ap, ◌∙◌, append_assoc, arith}
 
 -- so far xs stands in a list, and rest begins with its next item
 pub record Reading {X : Type 0} (spelled : X → List Token) (ts : List Token) (xs : List X) (rest : List Token) : Type 0 where
@@ -18,18 +10,6 @@ pub record Reading {X : Type 0} (spelled : X → List Token) (ts : List Token) (
   pub has : (ws : List X) (z : List Token) → ts ≡ spelled_list spelled ws ++ z → (y : X) × (ys : List X) × (ws ≡ xs ++ y ∷ ys) × (rest ≡ (spelled y ++ tail spelled ys) ++ z)
 
 module _ {X : Type 0} (spelled : X → List Token) (apart : Apart spelled) where
-  -- behind the parenthesis
-  has_first : (ts rest : List Token) → ts ≡ Open ∷ rest → ((more : List Token) → rest ≡ Close ∷ more → ⊥) → (ws : List X) (z : List Token) → ts ≡ spelled_list spelled ws ++ z → (y : X) × (ys : List X) × (ws ≡ [] ++ y ∷ ys) × (rest ≡ (spelled y ++ tail spelled ys) ++ z)
-  has_first ts rest e n [] z h = let q : rest ≡ Close ∷ z = cc in absurd (n z q)
-  has_first ts rest e n (y ∷ ys) z h = let q : rest ≡ (spelled y ++ tail spelled ys) ++ z = cc in (y, ys, refl, q)
-
-  pub starts : (ts rest : List Token) (xs : List X) → xs ≡ [] → ts ≡ Open ∷ rest → ((more : List Token) → rest ≡ Close ∷ more → ⊥) → Reading spelled ts xs rest
-  starts ts rest xs i e n =
-      subst (λ l. Reading spelled ts l rest) (sym i) (record { gives = λ y ys z h. e ∙ ap (λ r. Open ∷ r) h; has = has_first ts rest e n })
-
-  pub empty : (ts rest more : List Token) (xs : List X) → xs ≡ [] → ts ≡ Open ∷ rest → rest ≡ Close ∷ more → ts ≡ spelled_list spelled xs ++ more
-  empty ts rest more xs i e h = subst (λ l. ts ≡ spelled_list spelled l ++ more) (sym i) (e ∙ ap (λ r. Open ∷ r) h)
-
   -- what follows the next item, in a list
   past : (x y : X) (ys : List X) (rest after z : List Token) → rest ≡ spelled x ++ after → rest ≡ (spelled y ++ tail spelled ys) ++ z → (x ≡ y) × (after ≡ tail spelled ys ++ z)
   past x y ys rest after z e h = apart.only x y after (tail spelled ys ++ z) (sym e ∙ h ∙ append_assoc (spelled y) (tail spelled ys) z)
@@ -63,14 +43,6 @@ module _ {X : Type 0} (spelled : X → List Token) (apart : Apart spelled) where
   ends ts rest after more xs x r e k =
       r.gives x [] more (e ∙ ap (λ a. spelled x ++ a) k ∙ sym (append_assoc (spelled x) (Close ∷ []) more))
 
-  pub no_open : (ts : List Token) → ((rest : List Token) → ts ≡ Open ∷ rest → ⊥) → Foreign (spelled_list spelled) ts
-  no_open ts n ws z h = n (items spelled ws ++ z) h
-
-  pub no_item : (ts rest : List Token) (xs : List X) → Reading spelled ts xs rest → Foreign spelled rest → Foreign (spelled_list spelled) ts
-  no_item ts rest xs r f ws z h =
-      let g = r.has ws z h in
-      f g.0 (tail spelled g.1 ++ z) (g.3 ∙ append_assoc (spelled g.0) (tail spelled g.1) z)
-
   tail_head : (ys : List X) (after z : List Token) → after ≡ tail spelled ys ++ z → ((more : List Token) → after ≡ Close ∷ more → ⊥) → ((more : List Token) → after ≡ Comma ∷ more → ⊥) → ⊥
   unfolding tail
   tail_head [] after z e n m = n z e
@@ -81,7 +53,3 @@ module _ {X : Type 0} (spelled : X → List Token) (apart : Apart spelled) where
       let g = r.has ws z h in
       let p = past x g.0 g.1 rest after z e g.3 in
       tail_head g.1 after z p.1 n m
-
-  -- an item takes a token
-  pub shorter : (x : X) (rest after more : List Token) → rest ≡ spelled x ++ after → after ≡ Comma ∷ more → length more < length rest
-  shorter x rest after more e k = omega (arith, apart.some x, ap length e, ap length k, length-append (spelled x) after)

@@ -1,22 +1,24 @@
--- Where the tokens begin with no item. Assumes nothing.
-use Rattle.std.proofs.Common.{◌≡◌, ℕ, List, [], ◌∷◌, ◌++◌, Some, None, Err, Option, Result, sym, ap, ◌∙◌, subst, Bor}
+-- Where the tokens do not go on as they should. Assumes nothing.
+use Rattle.std.proofs.Common.{◌≡◌, ℕ, List, [], ◌∷◌, ◌++◌, Some, None, Err, Option, MatchOption, subst}
+use Rattle.std.specs.Option.{ok_or}
 use Rattle.arguments.specs.declared.written.ArgumentName.{ArgumentName}
 use Rattle.script.specs.declared.fault.Fault.{Fault}
+use Rattle.script.specs.declared.fault.Fault.TheVariants.{Expected}
+use Rattle.script.specs.declared.fault.Part.{Part}
 use Rattle.script.specs.declared.tokens.Token.{Token}
-use Rattle.script.specs.declared.tokens.Token.TheVariants.{Number}
-use Rattle.script.specs.declared.items.Text.{Text}
+use Rattle.script.specs.declared.tokens.Token.TheVariants.{Number, Arrow}
 use Rattle.script.specs.Seen.{Expects}
-use Rattle.script.specs.Spelling.{text_token, text_of, spelled_name, spelled_argument, spelled_list, Foreign, BeginsList}
-use Rattle.script.proofs.Runs.{expects_more}
+use Rattle.script.specs.Spelling.{text_of, spelled_text, spelled_name, spelled_argument, spelled_id, Foreign}
 
--- a refusal that is handed on
-pub list_none : {X : Type 0} (spelled : X → List Token) (ts : List Token) (xs : List X) (r : Result (Bor (List Token)) Fault) (e y : Fault) {P : Type 0} → r ≡ Err y → y ≡ e → (P → Foreign (spelled_list spelled) ts) → Expects e P → BeginsList spelled ts xs r
-list_none spelled ts xs r e y p q f n = subst (BeginsList spelled ts xs) (sym (p ∙ ap Err q)) (expects_more e f n)
+-- a fault about a part that is not there says why it is not
+pub lacks : {A P R : Type 0} (Q : A → Type 0) (o : Option A) (what : Part) (e : Fault) → Err e ≡ ok_or o (Expected what) → (P → R) → MatchOption o P Q → Expects e R
+lacks {R = R} Q None what e i f p = let q : Expected what ≡ e = cc in subst (λ x. Expects x R) q (f p)
+lacks Q (Some a) what e i f p = absurd cc
 
-argument-go : (ts : List Token) (t : Token) (more : List Token) → ts ≡ t ∷ more → ((n : ℕ) → t ≡ Number n → ⊥) → ((x : Text) → t ≡ text_token x → ⊥) → (m : Option ArgumentName) (i : ℕ) (rest : List Token) → ts ≡ spelled_name m (Number i ∷ []) ++ rest → ⊥
-argument-go ts t more e n h None i rest q = let z : t ≡ Number i = cc in n i z
-argument-go ts t more e n h (Some m) i rest q = let z : t ≡ text_token (text_of m) = cc in h (text_of m) z
+argument-go : (ts : List Token) → Foreign spelled_id ts → Foreign spelled_text ts → (m : Option ArgumentName) (i : ℕ) (rest : List Token) → ts ≡ spelled_name m (Number i ∷ []) ++ rest → ⊥
+argument-go ts n t None i rest e = n i rest e
+argument-go ts n t (Some m) i rest e = t (text_of m) (Arrow ∷ Number i ∷ rest) e
 
 -- an argument begins with a number or a text
-pub no_argument : (ts : List Token) (t : Token) (more : List Token) → ts ≡ t ∷ more → ((n : ℕ) → t ≡ Number n → ⊥) → ((x : Text) → t ≡ text_token x → ⊥) → Foreign spelled_argument ts
-no_argument ts t more e n h w rest q = argument-go ts t more e n h w.name w.id rest q
+pub no_argument : (ts : List Token) → Foreign spelled_id ts → Foreign spelled_text ts → Foreign spelled_argument ts
+no_argument ts n t w rest e = argument-go ts n t w.name w.id rest e

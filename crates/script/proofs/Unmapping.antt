@@ -1,5 +1,5 @@
 -- Tokens that are seen as what a line says spell a line. Assumes nothing.
-use Rattle.std.proofs.Common.{◌≡◌, ℕ, Bool, true, false, cond, List, [], ◌∷◌, ◌++◌, map, Some, None, Option, sym, refl, ap, ◌∙◌, subst, arith}
+use Rattle.std.proofs.Common.{◌≡◌, ℕ, Bool, true, false, cond, List, [], ◌∷◌, ◌++◌, map, Some, None, Option, sym, refl, ap, ◌∙◌, subst}
 use Rattle.std.proofs.lemmas.List.{map-append}
 use Rattle.arguments.specs.declared.written.ArgumentName.{ArgumentName}
 use Rattle.script.specs.declared.tokens.Span.{Span}
@@ -11,7 +11,7 @@ use Rattle.script.specs.declared.lines.Keyword.TheVariants as keyword
 use Rattle.script.specs.Tokens as tokens
 use Rattle.script.specs.Tokens.{Tok}
 use Rattle.script.specs.Seen.{bytes, seen}
-use Rattle.script.specs.Spelling.{text_token, text_of, spelled_text, spelled_name, spelled_argument, tail, items}
+use Rattle.script.specs.Spelling.{text_token, text_of, name_of, spelled_text, spelled_name, spelled_argument, tail, items}
 use Rattle.script.specs.Lines.{Form, blank, function, arguments, letters, spelled_named, Headed, Spelled}
 use Rattle.script.specs.Whole.{shown}
 
@@ -87,12 +87,12 @@ text_of-lettered Arrow h = absurd h
 
 word_back : (text : List ℕ) (t : Token) (b : List ℕ) → seen text t ≡ tokens.word b → (s : Span) × (t ≡ Word s) × (bytes text s ≡ b)
 word_back text (Word s) b e = let q : bytes text s ≡ b = cc in (s, refl, q)
-word_back text (Quoted s) b e = let z : ◌≡◌ {A = ℕ} 0 1 = cc in absurd (omega arith)
-word_back text (Number n) b e = let z : ◌≡◌ {A = ℕ} 0 1 = cc in absurd (omega arith)
-word_back text Open b e = let z : ◌≡◌ {A = ℕ} 0 1 = cc in absurd (omega arith)
-word_back text Close b e = let z : ◌≡◌ {A = ℕ} 0 1 = cc in absurd (omega arith)
-word_back text Comma b e = let z : ◌≡◌ {A = ℕ} 0 1 = cc in absurd (omega arith)
-word_back text Arrow b e = let z : ◌≡◌ {A = ℕ} 0 1 = cc in absurd (omega arith)
+word_back text (Quoted s) b e = absurd cc
+word_back text (Number n) b e = absurd cc
+word_back text Open b e = absurd cc
+word_back text Close b e = absurd cc
+word_back text Comma b e = absurd cc
+word_back text Arrow b e = absurd cc
 
 comma-then : (ts rest a b u v : List Token) (t : Token) → ts ≡ t ∷ rest → t ≡ Comma → rest ≡ a ++ b → a ≡ u → b ≡ v → ts ≡ Comma ∷ (u ++ v)
 comma-then ts rest a b u v t e p q h k = e ∙ (λ i. p i ∷ (q ∙ (λ j. h j ++ k j)) i)
@@ -100,10 +100,10 @@ comma-then ts rest a b u v t e p q h k = e ∙ (λ i. p i ∷ (q ∙ (λ j. h j 
 module _ (text : List ℕ) where
   nil_back : (ts : List Token) → map (seen text) ts ≡ [] → ts ≡ []
   nil_back [] e = refl
-  nil_back (t ∷ ts) e = let z : ◌≡◌ {A = ℕ} 0 1 = cc in absurd (omega arith)
+  nil_back (t ∷ ts) e = absurd cc
 
   cons_back : (ts : List Token) (x : Tok) (xs : List Tok) → map (seen text) ts ≡ x ∷ xs → (t : Token) × (rest : List Token) × (ts ≡ t ∷ rest) × (seen text t ≡ x) × (map (seen text) rest ≡ xs)
-  cons_back [] x xs e = let z : ◌≡◌ {A = ℕ} 0 1 = cc in absurd (omega arith)
+  cons_back [] x xs e = absurd cc
   cons_back (t ∷ ts) x xs e = let p : seen text t ≡ x = cc in let q : map (seen text) ts ≡ xs = cc in (t, ts, refl, p, q)
 
   append_back : (ts : List Token) (xs ys : List Tok) → map (seen text) ts ≡ xs ++ ys → (a : List Token) × (b : List Token) × (ts ≡ a ++ b) × (map (seen text) a ≡ xs) × (map (seen text) b ≡ ys)
@@ -131,10 +131,6 @@ module _ (text : List ℕ) where
         let c = cons_back ts _ [] e in
         let m = same_text c.0 n c.3 in
         (m.0, c.2 ∙ (λ i. m.1 i ∷ nil_back c.1 c.4 i))
-
-    -- the name that a text is
-    abbrev name_of : Text → ArgumentName
-    name_of t = record { start = t.span.start; len = t.span.len; is_quoted = t.is_quoted }
 
     name_back : (m : Option ArgumentName) (i : ℕ) (ts : List Token) → map (seen text) ts ≡ map (seen other) (spelled_name m (Number i ∷ [])) → (n : Option ArgumentName) × (ts ≡ spelled_name n (Number i ∷ []))
     name_back None i ts e =

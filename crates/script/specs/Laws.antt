@@ -6,7 +6,7 @@ use Rattle.script.specs.declared.tokens.Span.{Span}
 use Rattle.script.specs.declared.tokens.Token.{Token}
 use Rattle.script.specs.declared.tokens.Token.TheVariants.{Word, Quoted, Number, Open, Close, Comma, Arrow}
 use Rattle.script.specs.declared.items.Text.{Text}
-use Rattle.script.specs.Spelling.{text_token, spelled_text, text_of, spelled_name, spelled_argument, Apart}
+use Rattle.script.specs.Spelling.{text_token, spelled_text, text_of, name_of, spelled_name, spelled_argument, Apart}
 
 -- the text of a token, or another one
 abbrev back : Text → Token → Text
@@ -33,8 +33,8 @@ same_text t u e = sym (back_of t t) ∙ ap (back t) e ∙ back_of t u
 
 -- neither a word nor a quoted text ends a list
 no_close : (s : Span) (q : Bool) → cond q (Quoted s) (Word s) ≢ Close
-no_close s true e = let z : ◌≡◌ {A = ℕ} 0 1 = cc in omega arith
-no_close s false e = let z : ◌≡◌ {A = ℕ} 0 1 = cc in omega arith
+no_close s true e = cc
+no_close s false e = cc
 
 -- no text ends a list
 close_text : (t : Text) → text_token t ≢ Close
@@ -50,16 +50,12 @@ texts_apart = record {
 
 -- neither a word nor a quoted text is a number
 no_number : (n : ℕ) (s : Span) (q : Bool) → Number n ≢ cond q (Quoted s) (Word s)
-no_number n s true e = let z : ◌≡◌ {A = ℕ} 0 1 = cc in omega arith
-no_number n s false e = let z : ◌≡◌ {A = ℕ} 0 1 = cc in omega arith
+no_number n s true e = cc
+no_number n s false e = cc
 
 -- no number is a text
 pub number_text : (n : ℕ) (t : Text) → Number n ≢ text_token t
 number_text n t e = no_number n t.span t.is_quoted e
-
--- the name that a text is
-abbrev name_of : Text → ArgumentName
-name_of t = record { start = t.span.start; len = t.span.len; is_quoted = t.is_quoted }
 
 -- an argument is told by its tokens
 arguments_only : (m n : Option ArgumentName) (i j : ℕ) (a b : List Token) → spelled_name m (Number i ∷ []) ++ a ≡ spelled_name n (Number j ∷ []) ++ b → (i ≡ j) × (m ≡ n) × (a ≡ b)
@@ -79,7 +75,7 @@ some_name (Some m) i = omega arith
 
 -- no argument begins with the end of a list
 inner_name : (m : Option ArgumentName) (i : ℕ) (a b : List Token) → spelled_name m (Number i ∷ []) ++ a ≢ Close ∷ b
-inner_name None i a b e = let z : ◌≡◌ {A = ℕ} 0 1 = cc in omega arith
+inner_name None i a b e = cc
 inner_name (Some m) i a b e = let h : text_token (text_of m) ≡ Close = cc in close_text (text_of m) h
 
 -- arguments are told from one another

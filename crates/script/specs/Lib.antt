@@ -1,5 +1,6 @@
 pub mod Tokens
 pub mod Seen
+pub mod Lexing
 pub mod Spelling
 pub mod Laws
 pub mod Lines

@@ -1,5 +1,6 @@
 -- What a line says, and how that is spelled. Assumes nothing.
-use Rattle.std.specs.Prelude.{◌≡◌, ℕ, List, [], ◌∷◌, length, Ok, Err, vec_items, codes, Option, Result, ◌≢◌}
+use Rattle.std.specs.Prelude.{◌≡◌, ℕ, List, [], ◌∷◌, length, Ok, Err, vec_items, codes, Option, Result, Vec, ◌≢◌}
+use Rattle.std.specs.declared.alloc.Global.{Global}
 use Rattle.std.specs.List.{AllByRecursion}
 use Rattle.arguments.specs.declared.written.Argument.{Argument}
 use Rattle.arguments.specs.declared.written.ArgumentName.{ArgumentName}
@@ -45,10 +46,10 @@ Spelled text blank ts = ts ≡ []
 Spelled text (function n ps) ts = Headed text keyword.Function (spelled_named spelled_text n ps) ts
 Spelled text (arguments n ws) ts = Headed text keyword.Arguments (spelled_named spelled_argument n ws) ts
 
--- the tokens are a name and the list of these items; or they are no name and list
-abbrev pub Named : {X : Type 0} → (X → List Token) → List Token → List X → Result Text Fault → Type 0
-Named spelled ts xs (Ok n) = ts ≡ spelled_named spelled n xs
-Named {X} spelled ts xs (Err e) = Expects e ((n : Text) (ys : List X) → ts ≢ spelled_named spelled n ys)
+-- the tokens are this name and the list of these items; or they are no name and list
+abbrev pub Named : {X : Type 0} → (X → List Token) → List Token → Result (Text × Vec X Global) Fault → Type 0
+Named spelled ts (Ok p) = ts ≡ spelled_named spelled p.0 (vec_items p.1)
+Named {X} spelled ts (Err e) = Expects e ((n : Text) (xs : List X) → ts ≢ spelled_named spelled n xs)
 
 -- the argument that is written, of the type number 0
 abbrev pub argument : Written → Argument
@@ -76,10 +77,23 @@ Level line.Blank = Unit {0}
 Level (line.Function f) = Unit {0}
 Level (line.Arguments a) = (length (vec_items a.names) ≡ length (vec_items a.args)) × AllByRecursion (λ x. x.type_number ≡ 0) (vec_items a.args)
 
+-- the text of a line, of which a blank one has none
+abbrev pub line_text : Line → List ℕ
+line_text line.Blank = []
+line_text (line.Function f) = vec_items f.text
+line_text (line.Arguments a) = vec_items a.text
+
+-- a line has this text, where it has one
+abbrev pub Has : List ℕ → Line → Type 0
+Has text line.Blank = Unit {0}
+Has text (line.Function f) = vec_items f.text ≡ text
+Has text (line.Arguments a) = vec_items a.text ≡ text
+
 -- a line that the tokens spell
 pub record Found (text : List ℕ) (ts : List Token) (l : Line) : Type 0 where
   pub value : Spelled text (form l) ts
   pub len : Level l
+  pub own : Has text l
 
 -- no line is spelled by the tokens
 abbrev pub Unspelled : List ℕ → List Token → Type 0
@@ -89,7 +103,3 @@ Unspelled text ts = (f : Form) → Spelled text f ts → ⊥
 abbrev pub Lined : List ℕ → List Token → Result Line Fault → Type 0
 Lined text ts (Ok l) = Found text ts l
 Lined text ts (Err e) = Expects e (Unspelled text ts)
-
--- behind the token of a keyword, the line that the tokens spell, or none
-abbrev pub Heads : Keyword → List Token → Result Line Fault → Type 0
-Heads k rest r = (text : List ℕ) (t : Token) → Says text t k → Lined text (t ∷ rest) r

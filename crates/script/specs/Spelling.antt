@@ -1,5 +1,6 @@
 -- How things are spelled as tokens. Assumes nothing.
-use Rattle.std.specs.Prelude.{◌≡◌, ℕ, ◌<◌, cond, List, [], ◌∷◌, ◌++◌, length, Some, None, Ok, Err, Option, Result, ◌≢◌}
+use Rattle.std.specs.Prelude.{◌≡◌, ℕ, ◌<◌, cond, List, [], ◌∷◌, ◌++◌, length, Some, None, Ok, Err, vec_items, Option, Result, Vec, ◌≢◌}
+use Rattle.std.specs.declared.alloc.Global.{Global}
 use Rattle.std.specs.Borrow.{Bor}
 use Rattle.arguments.specs.declared.written.ArgumentName.{ArgumentName}
 use Rattle.script.specs.declared.fault.Fault.{Fault}
@@ -20,6 +21,10 @@ spelled_text t = text_token t ∷ []
 -- the text that a name is
 abbrev pub text_of : ArgumentName → Text
 text_of n = record { span = record { start = n.start; len = n.len }; is_quoted = n.is_quoted }
+
+-- the name that a text is
+abbrev pub name_of : Text → ArgumentName
+name_of t = record { start = t.span.start; len = t.span.len; is_quoted = t.is_quoted }
 
 -- what stands before the id of an argument: nothing, or its name and an arrow
 abbrev pub spelled_name : Option ArgumentName → List Token → List Token
@@ -63,12 +68,7 @@ abbrev pub Begins : {X : Type 0} → (X → List Token) → List Token → Resul
 Begins spelled ts (Ok p) = ts ≡ spelled p.0 ++ p.1.now
 Begins spelled ts (Err e) = Expects e (Foreign spelled ts)
 
--- the tokens begin with the list of these items, and what follows it; or they begin with no list
-abbrev pub BeginsList : {X : Type 0} → (X → List Token) → List Token → List X → Result (Bor (List Token)) Fault → Type 0
-BeginsList spelled ts xs (Ok rest) = ts ≡ spelled_list spelled xs ++ rest.now
-BeginsList spelled ts xs (Err e) = Expects e (Foreign (spelled_list spelled) ts)
-
--- what follows a given token; or that the tokens do not begin with it
-abbrev pub Follows : Token → List Token → Result (Bor (List Token)) Fault → Type 0
-Follows t ts (Ok rest) = ts ≡ t ∷ rest.now
-Follows t ts (Err e) = Expects e ((rest : List Token) → ts ≢ t ∷ rest)
+-- the list that the tokens begin with, and what follows it; or they begin with no list
+abbrev pub BeginsList : {X : Type 0} → (X → List Token) → List Token → Result (Vec X Global × Bor (List Token)) Fault → Type 0
+BeginsList spelled ts (Ok p) = ts ≡ spelled_list spelled (vec_items p.0) ++ p.1.now
+BeginsList spelled ts (Err e) = Expects e (Foreign (spelled_list spelled) ts)

@@ -7,11 +7,10 @@ use Rattle.script.specs.declared.items.Text.{Text}
 use Rattle.script.specs.declared.lines.Keyword.TheVariants as keyword
 use Rattle.script.specs.declared.lines.Line.{Line}
 use Rattle.script.specs.declared.lines.Line.TheVariants as line
-use Rattle.script.specs.declared.reads.ReadLine.{ReadLine}
 use Rattle.script.specs.Tokens.{Tok, word, lex}
 use Rattle.script.specs.Seen.{seen, Inside, Refuses}
 use Rattle.script.specs.Spelling.{spelled_text, spelled_argument}
-use Rattle.script.specs.Lines.{Form, blank, function, arguments, letters, spelled_named, form, Level}
+use Rattle.script.specs.Lines.{Form, blank, function, arguments, letters, spelled_named, form, Level, line_text}
 
 -- a space or a tab
 abbrev pub is_blank : ℕ → Bool
@@ -47,17 +46,17 @@ LineInside n line.Blank = Unit {0}
 LineInside n (line.Function f) = TextInside n f.name × AllByRecursion (TextInside n) (vec_items f.params)
 LineInside n (line.Arguments a) = TextInside n a.name × AllByRecursion (NameInside n) (vec_items a.names)
 
--- a line and its text are what the bytes say
-pub record Reads (bytes : List ℕ) (r : ReadLine) : Type 0 where
-  pub value : says bytes ≡ Some (shown (vec_items r.text) (form r.line))
-  pub len : Level r.line
-  pub within : LineInside (length (vec_items r.text)) r.line
+-- a line is what the bytes say
+pub record Reads (bytes : List ℕ) (l : Line) : Type 0 where
+  pub value : says bytes ≡ Some (shown (line_text l) (form l))
+  pub len : Level l
+  pub within : LineInside (length (line_text l)) l
 
 -- the bytes say nothing that a line can say
 abbrev pub Unread : List ℕ → Type 0
 Unread bytes = (text : List ℕ) (f : Form) → says bytes ≢ Some (shown text f)
 
 -- the line that the bytes say, or none
-abbrev pub Answers : List ℕ → Result ReadLine Fault → Type 0
-Answers bytes (Ok r) = Reads bytes r
+abbrev pub Answers : List ℕ → Result Line Fault → Type 0
+Answers bytes (Ok l) = Reads bytes l
 Answers bytes (Err e) = Refuses e (Unread bytes)

@@ -1,8 +1,7 @@
 // What the lists of a line are of, and how one is read off its tokens.
 ghost use Rattle.std.specs.Prelude.{◌≡◌, List, [], ◌∷◌, ◌++◌, MatchOption, ◌≢◌};
 ghost use Rattle.script.specs.declared.tokens.Token.{Token as Mark};
-ghost use Rattle.script.specs.declared.tokens.Token.TheVariants.{Open, Close, Comma, Arrow};
-ghost use Rattle.script.specs.Spelling.{text_token, spelled_text, spelled_argument, spelled_id, Apart, Begins, Follows};
+ghost use Rattle.script.specs.Spelling.{text_of, name_of, spelled_text, spelled_argument, spelled_id, Apart, Begins, Foreign};
 ghost use Rattle.script.specs.Laws.{texts_apart, arguments_apart};
 
 use crate::fault::{Fault, Part};
@@ -10,7 +9,7 @@ use crate::tokens::{Span, Token};
 use arguments::ArgumentName;
 
 // A word or a quoted text.
-#[derive(Clone, Copy)]
+#[derive(Clone, Copy, PartialEq, Eq)]
 pub struct Text {
     pub span: Span,
     pub is_quoted: bool,
@@ -34,80 +33,44 @@ pub trait Item: Sized {
         ensures { Begins spelled tokens.now result };
 }
 
-// The first token, and what follows it.
-pub(crate) fn first(tokens: &[Token]) -> Option<(Token, &[Token])>
-    ensures { MatchOption result (tokens.now ≡ []) (λ p. tokens.now ≡ p.0 ∷ p.1.now) }
+impl From<Text> for ArgumentName {
+    ghost from_gives = { λ t n. n ≡ name_of t };
+
+    fn from(text: Text) -> ArgumentName {
+        ArgumentName {
+            start: text.span.start,
+            len: text.span.len,
+            is_quoted: text.is_quoted,
+        }
+    }
+}
+
+// What follows a token, where the tokens begin with it.
+pub(crate) fn after(tokens: &[Token], token: Token) -> Option<&[Token]>
+    ensures { MatchOption result ((rest : List Mark) → tokens.now ≢ token ∷ rest) (λ rest. tokens.now ≡ token ∷ rest.now) }
+{
+    tokens.strip_prefix(&[token])
+}
+
+// A text, where the tokens begin with one, and what follows it.
+fn split_text(tokens: &[Token]) -> Option<(Text, &[Token])>
+    ensures { MatchOption result (Foreign spelled_text tokens.now) (λ p. tokens.now ≡ spelled_text p.0 ++ p.1.now) }
+{
+    let (span, is_quoted, rest) = match tokens {
+        [Token::Word(span), rest @ ..] => (*span, false, rest),
+        [Token::Quoted(span), rest @ ..] => (*span, true, rest),
+        _ => return None,
+    };
+    Some((Text { span, is_quoted }, rest))
+}
+
+// A number, where the tokens begin with one, and what follows it.
+fn split_number(tokens: &[Token]) -> Option<(u32, &[Token])>
+    ensures { MatchOption result (Foreign spelled_id tokens.now) (λ p. tokens.now ≡ spelled_id p.0 ++ p.1.now) }
 {
     match tokens {
-        [] => None,
-        [token, rest @ ..] => Some((*token, rest)),
-    }
-}
-
-// The text that a token is.
-pub(crate) fn text_of(token: Token) -> Option<Text>
-    ensures { MatchOption result ((t : Text) → token ≢ text_token t) (λ t. token ≡ text_token t) }
-{
-    match token {
-        Token::Word(span) => Some(Text {
-            span,
-            is_quoted: false,
-        }),
-        Token::Quoted(span) => Some(Text {
-            span,
-            is_quoted: true,
-        }),
+        [Token::Number(id), rest @ ..] => Some((*id, rest)),
         _ => None,
-    }
-}
-
-// What follows the parenthesis that opens a list.
-pub(crate) fn opened(tokens: &[Token]) -> Result<&[Token], Fault>
-    ensures { Follows Open tokens.now result }
-{
-    match first(tokens) {
-        Some((Token::Open, rest)) => Ok(rest),
-        _ => Err(Fault::Expected(Part::Open)),
-    }
-}
-
-// What follows a comma.
-pub(crate) fn separated(tokens: &[Token]) -> Result<&[Token], Fault>
-    ensures { Follows Comma tokens.now result }
-{
-    match first(tokens) {
-        Some((Token::Comma, rest)) => Ok(rest),
-        _ => Err(Fault::Expected(Part::Separator)),
-    }
-}
-
-// What follows the parenthesis that closes a list, where it stands first.
-pub(crate) fn closed(tokens: &[Token]) -> Option<&[Token]>
-    ensures { MatchOption result ((rest : List Mark) → tokens.now ≢ Close ∷ rest) (λ rest. tokens.now ≡ Close ∷ rest.now) }
-{
-    match first(tokens) {
-        Some((Token::Close, rest)) => Some(rest),
-        _ => None,
-    }
-}
-
-// What follows an arrow.
-fn pointed(tokens: &[Token]) -> Result<&[Token], Fault>
-    ensures { Follows Arrow tokens.now result }
-{
-    match first(tokens) {
-        Some((Token::Arrow, rest)) => Ok(rest),
-        _ => Err(Fault::Expected(Part::Arrow)),
-    }
-}
-
-// An id, and what follows it.
-fn read_id(tokens: &[Token]) -> Result<(u32, &[Token]), Fault>
-    ensures { Begins spelled_id tokens.now result }
-{
-    match first(tokens) {
-        Some((Token::Number(id), rest)) => Ok((id, rest)),
-        _ => Err(Fault::Expected(Part::Id)),
     }
 }
 
@@ -117,13 +80,7 @@ impl Item for Text {
     ghost apart = { texts_apart };
 
     fn read(tokens: &[Token]) -> Result<(Text, &[Token]), Fault> {
-        let Some((token, rest)) = first(tokens) else {
-            return Err(Fault::Expected(Part::Text));
-        };
-        let Some(text) = text_of(token) else {
-            return Err(Fault::Expected(Part::Text));
-        };
-        Ok((text, rest))
+        split_text(tokens).ok_or(Fault::Expected(Part::Text))
     }
 }
 
@@ -133,22 +90,13 @@ impl Item for Written {
     ghost apart = { arguments_apart };
 
     fn read(tokens: &[Token]) -> Result<(Written, &[Token]), Fault> {
-        let Some((token, rest)) = first(tokens) else {
-            return Err(Fault::Expected(Part::Argument));
-        };
-        if let Token::Number(id) = token {
+        if let Some((id, rest)) = split_number(tokens) {
             return Ok((Written { id, name: None }, rest));
         }
-        let Some(text) = text_of(token) else {
-            return Err(Fault::Expected(Part::Argument));
-        };
-        let (id, rest) = read_id(pointed(rest)?)?;
-        let name = ArgumentName {
-            start: text.span.start,
-            len: text.span.len,
-            is_quoted: text.is_quoted,
-        };
-        let name = Some(name);
+        let (name, rest) = split_text(tokens).ok_or(Fault::Expected(Part::Argument))?;
+        let rest = after(rest, Token::Arrow).ok_or(Fault::Expected(Part::Arrow))?;
+        let (id, rest) = split_number(rest).ok_or(Fault::Expected(Part::Id))?;
+        let name = Some(ArgumentName::from(name));
         Ok((Written { id, name }, rest))
     }
 }

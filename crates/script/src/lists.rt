@@ -1,29 +1,30 @@
 // A list in parentheses, with commas between its items.
-ghost use Rattle.std.specs.Prelude.{◌≡◌, []};
 ghost use Rattle.script.specs.Spelling.{BeginsList};
 
-use crate::fault::Fault;
-use crate::items::{Item, closed, opened, separated};
+use crate::fault::{Fault, Part};
+use crate::items::{Item, after};
 use crate::tokens::Token;
+use std::alloc::Global;
 
-// Reads the list that the tokens begin with. The answer is what follows it.
-pub(crate) fn read_list<'a, T: Item + Drop>(
-    tokens: &'a [Token],
-    items: &mut Vec<T>,
-) -> Result<&'a [Token], Fault>
-    requires { items.old.items ≡ [] }
-    ensures { BeginsList T.spelled tokens.now items.new.items result }
+// Reads the list that the tokens begin with, and says what follows it.
+pub(crate) fn read_list<T: Item + Drop>(
+    heap: Global,
+    tokens: &[Token],
+) -> Result<(Vec<T>, &[Token]), Fault>
+    ensures { BeginsList T.spelled tokens.now result }
 {
-    let mut rest = opened(tokens)?;
-    if let Some(after) = closed(rest) {
-        return Ok(after);
+    let mut items = Vec::new(heap);
+    let mut rest = after(tokens, Token::Open).ok_or(Fault::Expected(Part::Open))?;
+    if let Some(behind) = after(rest, Token::Close) {
+        return Ok((items, behind));
     }
+    // A loop, since each turn goes on with the tokens that the last one left.
     loop {
-        let (item, after) = T::read(rest)?;
+        let (item, more) = T::read(rest)?;
         items.push(item)?;
-        if let Some(more) = closed(after) {
-            return Ok(more);
+        if let Some(behind) = after(more, Token::Close) {
+            return Ok((items, behind));
         }
-        rest = separated(after)?;
+        rest = after(more, Token::Comma).ok_or(Fault::Expected(Part::Separator))?;
     }
 }

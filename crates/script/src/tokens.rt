@@ -1,22 +1,22 @@
 // Cuts a line into tokens, byte after byte.
-ghost use Rattle.std.specs.Prelude.{◌≡◌, ℕ, ◌+◌, ◌-◌, ◌*◌, ◌<◌, ◌≤◌, List, [], ◌∷◌, ◌++◌, map, length, drop, IfSome, IfErr, Some, None, vec_len};
-ghost use Rattle.script.specs.Tokens.{class, goes_on, hex_value, at, nothing, begins, goes, step, finish, lex, in_word, in_number, in_quote, in_escape, in_high, in_low};
-ghost use Rattle.script.specs.Seen.{bytes, Inside, seen, Within, pending, From, grown, state, Sound, Grows, Steps, Finishes, Faulty, Ends};
+ghost use Rattle.std.specs.Prelude.{◌≡◌, ◌≤◌, [], ◌∷◌, ◌++◌, length, IfErr};
+ghost use Rattle.std.specs.List.{AllByRecursion};
+ghost use Rattle.std.specs.Option.{option_map};
+ghost use Rattle.std.proofs.Props.{props};
+ghost use Rattle.script.specs.Tokens.{class, goes_on, hex_value, lex};
+ghost use Rattle.script.specs.Seen.{Within, Within-prop, Faulty, Ends};
 
 use crate::fault::Fault;
 use std::alloc::Global;
 
-// The largest number that a line may write.
-const LARGEST: u64 = 4294967295;
-
 // A part of the decoded text.
-#[derive(Clone, Copy)]
+#[derive(Clone, Copy, PartialEq, Eq)]
 pub struct Span {
     pub start: usize,
     pub len: usize,
 }
 
-#[derive(Clone, Copy)]
+#[derive(Clone, Copy, PartialEq, Eq)]
 pub enum Token {
     Word(Span),
     Quoted(Span),
@@ -48,37 +48,50 @@ enum Class {
     Other,
 }
 
-// What is begun, with the place in the text where it starts.
+// The value of a hexadecimal digit.
+#[derive(Clone, Copy)]
+struct HexDigit {
+    value: u8,
+    ghost small: { value ≤ 15 },
+}
+
+// What is begun.
 #[derive(Clone, Copy)]
 enum Mode {
     Between,
-    InWord(usize),
-    InQuote(usize),
-    InEscape(usize),
-    InHigh(usize),
-    InLow { start: usize, high: u8 },
+    InWord,
+    InQuote,
+    InEscape,
+    InHigh,
+    InLow(HexDigit),
     InNumber(u32),
     InArrow,
 }
 
+// A byte of the line, at its place.
+#[derive(Clone, Copy)]
+struct Input {
+    place: usize,
+    byte: u8,
+}
+
+// The text and the tokens so far. The bytes of what is begun are those from `start` on.
 #[derive(Drop)]
 struct Lexer {
     text: Vec<u8>,
     tokens: Vec<Token>,
+    start: usize,
     mode: Mode,
+    ghost spans_within: { AllByRecursion (Within (length text.items)) tokens.items } by { Prim.hlevel (Within-prop, props) },
+    ghost start_within: { start ≤ length text.items },
 }
 
-fn class_of(b: u8) -> Class
-    ensures { result ≡ class b }
+fn class_of(byte: u8) -> Class
+    ensures { result ≡ class byte }
 {
-    if b.is_ascii_alphabetic() {
-        return Class::Letter;
-    }
-    if b.is_ascii_digit() {
-        return Class::Digit;
-    }
-    match b {
-        b'_' => Class::Letter,
+    match byte {
+        b'_' | b'A'..=b'Z' | b'a'..=b'z' => Class::Letter,
+        b'0'..=b'9' => Class::Digit,
         b' ' | b'\t' => Class::Blank,
         b'"' => Class::Quote,
         b'(' => Class::Opens,
@@ -90,33 +103,49 @@ fn class_of(b: u8) -> Class
 }
 
 // Whether a byte goes on with a word.
-fn goes_on(b: u8) -> bool
-    ensures { result ≡ goes_on (class b) }
+fn goes_on(byte: u8) -> bool
+    ensures { result ≡ goes_on (class byte) }
 {
-    match class_of(b) {
-        Class::Letter | Class::Digit => true,
-        _ => false,
+    matches!(class_of(byte), Class::Letter | Class::Digit)
+}
+
+impl HexDigit {
+    fn of(byte: u8) -> Option<Self>
+        ensures { option_map (λ h. h.value) result ≡ hex_value byte }
+    {
+        let value = char::from(byte).to_digit(16)?;
+        Some(HexDigit { value: value as u8 })
     }
 }
 
-fn hex_value(b: u8) -> Option<u8>
-    ensures value { result ≡ hex_value b }
-    ensures bound { IfSome result (λ h. h ≤ 15) }
-{
-    match b {
-        b'0'..=b'9' => Some(b - b'0'),
-        b'a'..=b'f' => Some(b - b'a' + 10),
-        b'A'..=b'F' => Some(b - b'A' + 10),
-        _ => None,
+impl Input {
+    fn stray(self) -> Fault
+        ensures { result ≡ Fault.Stray self.place self.byte }
+    {
+        Fault::Stray {
+            place: self.place,
+            byte: self.byte,
+        }
+    }
+
+    fn escape(self) -> Fault
+        ensures { result ≡ Fault.Escape self.place self.byte }
+    {
+        Fault::Escape {
+            place: self.place,
+            byte: self.byte,
+        }
     }
 }
 
 impl Lexer {
+    ghost use Rattle.script.specs.Tokens.{at, nothing, begins, goes, step, finish, in_word, in_number, in_quote, in_escape, in_high, in_low};
+    ghost use Rattle.script.specs.Seen.{bytes, seen, Inside};
+    ghost use Rattle.script.specs.Lexing.{pending, begun, done, state, Grows, Steps, Finishes};
+
     // One byte more in the text, which belongs to what is then begun.
     fn keep(&mut self, byte: u8, mode: Mode) -> Result<(), Fault>
-        requires sound { Sound self.old }
-        requires start { From (length self.old.text.items) mode }
-        ensures { Grows result (Some (at (state self.old).done (grown (pending self.old.text.items mode) byte))) self.new }
+        ensures { Grows result (Some (at (done self.old) (pending (begun self.old ++ byte ∷ []) mode))) self.new }
     {
         self.text.push(byte)?;
         self.mode = mode;
@@ -125,168 +154,138 @@ impl Lexer {
 
     // One token more, and nothing begun.
     fn emit(&mut self, token: Token) -> Result<(), Fault>
-        requires sound { Sound self.old }
-        requires within { Within (length self.old.text.items) token }
-        ensures { Grows result (Some (at ((state self.old).done ++ seen self.old.text.items token ∷ []) nothing)) self.new }
+        requires { Within (length self.old.text.items) token }
+        ensures { Grows result (Some (at (done self.old ++ seen self.old.text.items token ∷ []) nothing)) self.new }
     {
         self.tokens.push(token)?;
         self.mode = Mode::Between;
         Ok(())
     }
 
-    // What stands in the text from a place on.
-    fn span_from(&self, start: usize) -> Span
-        requires { start ≤ length self.now.text.items }
-        ensures value { bytes self.now.text.items result ≡ drop start self.now.text.items }
+    // The part of the text that is begun.
+    fn begun(&self) -> Span
+        ensures value { bytes self.now.text.items result ≡ begun self.now }
         ensures within { Inside (length self.now.text.items) result }
     {
         Span {
-            start,
-            len: self.text.len() - start,
+            start: self.start,
+            len: self.text.len() - self.start,
         }
     }
 
     // A byte where nothing is begun.
-    fn begin(&mut self, place: usize, byte: u8) -> Result<(), Fault>
-        requires { Sound self.old }
-        ensures { Steps place byte result (begins (state self.old).done byte (class byte)) self.new }
+    fn begin(&mut self, input: Input) -> Result<(), Fault>
+        ensures { Steps input result (begins (done self.old) input.byte (class input.byte)) self.new }
     {
-        match class_of(byte) {
+        self.start = self.text.len();
+        match class_of(input.byte) {
             Class::Blank => self.mode = Mode::Between,
-            Class::Letter => {
-                let start = self.text.len();
-                self.keep(byte, Mode::InWord(start))?;
-            }
-            Class::Digit => self.mode = Mode::InNumber(u32::from(byte.saturating_sub(b'0'))),
-            Class::Quote => self.mode = Mode::InQuote(self.text.len()),
+            Class::Letter => self.keep(input.byte, Mode::InWord)?,
+            Class::Digit => self.mode = Mode::InNumber(u32::from(input.byte - b'0')),
+            Class::Quote => self.mode = Mode::InQuote,
             Class::Opens => self.emit(Token::Open)?,
             Class::Closes => self.emit(Token::Close)?,
             Class::Separates => self.emit(Token::Comma)?,
             Class::Equals => self.mode = Mode::InArrow,
-            Class::Other => return Err(Fault::Stray { place, byte }),
+            Class::Other => return Err(input.stray()),
         }
         Ok(())
     }
 
     // A byte in or behind a word.
-    fn in_word(&mut self, start: usize, place: usize, byte: u8) -> Result<(), Fault>
-        requires sound { Sound self.old }
-        requires start { start ≤ length self.old.text.items }
-        ensures { Steps place byte result (goes (state self.old).done (in_word (drop start self.old.text.items)) byte) self.new }
+    fn in_word(&mut self, input: Input) -> Result<(), Fault>
+        ensures { Steps input result (goes (done self.old) (in_word (begun self.old)) input.byte) self.new }
     {
-        if goes_on(byte) {
-            return self.keep(byte, Mode::InWord(start));
+        if goes_on(input.byte) {
+            return self.keep(input.byte, Mode::InWord);
         }
-        let span = self.span_from(start);
-        self.emit(Token::Word(span))?;
-        self.begin(place, byte)
+        self.emit(Token::Word(self.begun()))?;
+        self.begin(input)
     }
 
     // A byte in or behind a number.
-    fn in_number(&mut self, number: u32, place: usize, byte: u8) -> Result<(), Fault>
-        requires sound { Sound self.old }
-        ensures { Steps place byte result (goes (state self.old).done (in_number number) byte) self.new }
+    fn in_number(&mut self, number: u32, input: Input) -> Result<(), Fault>
+        ensures { Steps input result (goes (done self.old) (in_number number) input.byte) self.new }
     {
-        if !byte.is_ascii_digit() {
+        let Some(digit) = char::from(input.byte).to_digit(10) else {
             self.emit(Token::Number(number))?;
-            return self.begin(place, byte);
-        }
-        let more = u64::from(number) * 10 + u64::from(byte.saturating_sub(b'0'));
-        if more > LARGEST {
-            return Err(Fault::Large { place });
-        }
-        self.mode = Mode::InNumber(more as u32);
+            return self.begin(input);
+        };
+        let more = number
+            .checked_mul(10)
+            .and_then(|tens| tens.checked_add(digit))
+            .ok_or(Fault::Large { place: input.place })?;
+        self.mode = Mode::InNumber(more);
         Ok(())
     }
 
     // A byte in a quoted text.
-    fn in_quote(&mut self, start: usize, byte: u8) -> Result<(), Fault>
-        requires sound { Sound self.old }
-        requires start { start ≤ length self.old.text.items }
-        ensures { Grows result (goes (state self.old).done (in_quote (drop start self.old.text.items)) byte) self.new }
+    fn in_quote(&mut self, byte: u8) -> Result<(), Fault>
+        ensures { Grows result (goes (done self.old) (in_quote (begun self.old)) byte) self.new }
     {
         match byte {
-            b'"' => {
-                let span = self.span_from(start);
-                self.emit(Token::Quoted(span))?;
-            }
-            b'\\' => self.mode = Mode::InEscape(start),
-            _ => self.keep(byte, Mode::InQuote(start))?,
+            b'"' => self.emit(Token::Quoted(self.begun()))?,
+            b'\\' => self.mode = Mode::InEscape,
+            _ => self.keep(byte, Mode::InQuote)?,
         }
         Ok(())
     }
 
     // The byte behind a backslash.
-    fn in_escape(&mut self, start: usize, place: usize, byte: u8) -> Result<(), Fault>
-        requires sound { Sound self.old }
-        requires start { start ≤ length self.old.text.items }
-        ensures { Steps place byte result (goes (state self.old).done (in_escape (drop start self.old.text.items)) byte) self.new }
+    fn in_escape(&mut self, input: Input) -> Result<(), Fault>
+        ensures { Steps input result (goes (done self.old) (in_escape (begun self.old)) input.byte) self.new }
     {
-        match byte {
-            b'x' => self.mode = Mode::InHigh(start),
-            b'"' | b'\\' => self.keep(byte, Mode::InQuote(start))?,
-            _ => return Err(Fault::Escape { place, byte }),
+        match input.byte {
+            b'x' => self.mode = Mode::InHigh,
+            b'"' | b'\\' => self.keep(input.byte, Mode::InQuote)?,
+            _ => return Err(input.escape()),
         }
         Ok(())
     }
 
     // The first digit of an escaped byte.
-    fn in_high(&mut self, start: usize, place: usize, byte: u8) -> Result<(), Fault>
-        requires sound { Sound self.old }
-        requires start { start ≤ length self.old.text.items }
-        ensures { Steps place byte result (goes (state self.old).done (in_high (drop start self.old.text.items)) byte) self.new }
+    fn in_high(&mut self, input: Input) -> Result<(), Fault>
+        ensures { Steps input result (goes (done self.old) (in_high (begun self.old)) input.byte) self.new }
     {
-        let Some(high) = hex_value(byte) else {
-            return Err(Fault::Escape { place, byte });
-        };
-        self.mode = Mode::InLow { start, high };
+        let high = HexDigit::of(input.byte).ok_or(input.escape())?;
+        self.mode = Mode::InLow(high);
         Ok(())
     }
 
     // The second digit of an escaped byte.
-    fn in_low(&mut self, start: usize, high: u8, place: usize, byte: u8) -> Result<(), Fault>
-        requires sound { Sound self.old }
-        requires start { start ≤ length self.old.text.items }
-        requires bound { high ≤ 15 }
-        ensures { Steps place byte result (goes (state self.old).done (in_low (drop start self.old.text.items) high) byte) self.new }
+    fn in_low(&mut self, high: HexDigit, input: Input) -> Result<(), Fault>
+        ensures { Steps input result (goes (done self.old) (in_low (begun self.old) high.value) input.byte) self.new }
     {
-        let Some(low) = hex_value(byte) else {
-            return Err(Fault::Escape { place, byte });
-        };
-        self.keep(high * 16 + low, Mode::InQuote(start))
+        let low = HexDigit::of(input.byte).ok_or(input.escape())?;
+        self.keep(high.value * 16 + low.value, Mode::InQuote)
     }
 
-    // One byte more of the line, at its place.
-    fn push(&mut self, place: usize, byte: u8) -> Result<(), Fault>
-        requires { Sound self.old }
-        ensures { Steps place byte result (step (state self.old) byte) self.new }
+    // One byte more of the line.
+    fn push(&mut self, input: Input) -> Result<(), Fault>
+        ensures { Steps input result (step (state self.old) input.byte) self.new }
     {
         match self.mode {
-            Mode::Between => self.begin(place, byte),
-            Mode::InWord(start) => self.in_word(start, place, byte),
-            Mode::InQuote(start) => self.in_quote(start, byte),
-            Mode::InEscape(start) => self.in_escape(start, place, byte),
-            Mode::InHigh(start) => self.in_high(start, place, byte),
-            Mode::InLow { start, high } => self.in_low(start, high, place, byte),
-            Mode::InNumber(number) => self.in_number(number, place, byte),
-            Mode::InArrow => match byte {
+            Mode::Between => self.begin(input),
+            Mode::InWord => self.in_word(input),
+            Mode::InQuote => self.in_quote(input.byte),
+            Mode::InEscape => self.in_escape(input),
+            Mode::InHigh => self.in_high(input),
+            Mode::InLow(high) => self.in_low(high, input),
+            Mode::InNumber(number) => self.in_number(number, input),
+            Mode::InArrow => match input.byte {
                 b'>' => self.emit(Token::Arrow),
-                _ => Err(Fault::Stray { place, byte }),
+                _ => Err(input.stray()),
             },
         }
     }
 
     // The tokens where the line ends.
     fn finish(mut self) -> Result<Tokens, Fault>
-        requires { Sound self }
         ensures { Finishes result (finish (state self)) }
     {
         match self.mode {
             Mode::Between => {}
-            Mode::InWord(start) => {
-                let span = self.span_from(start);
-                self.emit(Token::Word(span))?;
-            }
+            Mode::InWord => self.emit(Token::Word(self.begun()))?,
             Mode::InNumber(number) => self.emit(Token::Number(number))?,
             _ => return Err(Fault::Unfinished),
         }
@@ -303,10 +302,11 @@ pub fn tokens_of(heap: Global, line: &[u8]) -> Result<Tokens, Fault>
     let mut lexer = Lexer {
         text: Vec::new(heap),
         tokens: Vec::new(heap),
+        start: 0,
         mode: Mode::Between,
     };
-    for (place, byte) in line.iter().enumerate() {
-        lexer.push(place, *byte)?;
+    for (place, &byte) in line.iter().enumerate() {
+        lexer.push(Input { place, byte })?;
     }
     lexer.finish()
 }

@@ -1,3 +1,2 @@
-pub mod Parts
+pub mod Labels
 pub mod Newest
-pub mod Answered

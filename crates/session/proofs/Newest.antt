@@ -1,31 +1,29 @@
--- The newest function of a name, one function on.
-use Rattle.std.proofs.Common.{◌≡◌, ℕ, ◌+◌, ◌<◌, Bool, List, [], ◌∷◌, ◌++◌, map, length, get_or, take, Some, None, Option, sym, refl, ap, ◌∙◌}
-use Rattle.std.proofs.lemmas.List.{map_more}
+-- The newest function of a name, found from the back. Assumes nothing.
+use Rattle.std.proofs.Common.{◌≡◌, ℕ, Bool, true, false, cond, List, [], ◌∷◌, map, Some, None, Option, reverse, sym, refl, ap, ◌∙◌, Bor}
+use Rattle.std.proofs.lemmas.List.{reverse-append}
+use Rattle.std.proofs.lemmas.List.Folds.{find-append}
+use Rattle.std.specs.List.{find}
+use Rattle.std.specs.Option.{option_map, option_or}
 use Rattle.std.specs.Str.{bytes_eq}
 use Rattle.arguments.specs.First.{or_else, when}
-use Rattle.session.specs.Known.{Known, known, newest}
+use Rattle.session.specs.Known.{known, newest}
 use Rattle.session.specs.declared.function.Function.{Function}
 
-or_assoc : {A : Type 0} (x y z : Option A) → or_else (or_else x y) z ≡ or_else x (or_else y z)
-or_assoc None y z = refl
-or_assoc (Some a) y z = refl
+either : (o : Option Function) (b : Bool) (f : Function) → or_else (option_map known o) (when b (known f)) ≡ option_map known (option_or o (cond b (Some f) None))
+either None true f = refl
+either None false f = refl
+either (Some g) b f = refl
 
-or_none : {A : Type 0} (x : Option A) → or_else x None ≡ x
-or_none None = refl
-or_none (Some a) = refl
-
-pub newest-push : (name : List ℕ) (fs : List Known) (f : Known) → newest name (fs ++ f ∷ []) ≡ or_else (when (bytes_eq f.name name) f) (newest name fs)
+-- the newest is the first from the back
+pub newest-find : (name : List ℕ) (fs : List Function) → newest name (map known fs) ≡ option_map known (find (λ f. bytes_eq (known f).name name) (reverse fs))
 unfolding newest
-newest-push name [] f = sym (or_none (when (bytes_eq f.name name) f))
-newest-push name (g ∷ gs) f = ap (λ (o : Option Known). or_else o (when (bytes_eq g.name name) g)) (newest-push name gs f) ∙ or_assoc (when (bytes_eq f.name name) f) (newest name gs) (when (bytes_eq g.name name) g)
+newest-find name [] = refl
+newest-find name (f ∷ fs) =
+    let is : Function → Bool = λ g. bytes_eq (known g).name name in
+    ap (λ o. or_else o (when (is f) (known f))) (newest-find name fs)
+    ∙ either (find is (reverse fs)) (is f) f
+    ∙ ap (option_map known) (sym (ap (find is) (reverse-append (f ∷ []) fs) ∙ find-append is (reverse fs) (f ∷ [])))
 
-pub newest-more : (name : List ℕ) (fs : List Function) (i : ℕ) (f : Function) (b : Bool) → i < length fs → f ≡ get_or fs i f → b ≡ bytes_eq (known f).name name
-    → newest name (map known (take (i + 1) fs)) ≡ or_else (when b (known f)) (newest name (map known (take i fs)))
-newest-more name fs i f b l e h =
-    ap (newest name) (map_more known fs i f l ∙ ap (λ (x : Function). map known (take i fs) ++ known x ∷ []) (sym e))
-    ∙ newest-push name (map known (take i fs)) (known f)
-    ∙ ap (λ (x : Bool). or_else (when x (known f)) (newest name (map known (take i fs)))) (sym h)
-
-pub newest-none : (name : List ℕ) → None ≡ newest name []
-unfolding newest
-newest-none name = refl
+pub known-seen : (o : Option (Bor Function)) → option_map (λ f. known f.now) o ≡ option_map known (option_map (λ f. f.now) o)
+known-seen None = refl
+known-seen (Some f) = refl

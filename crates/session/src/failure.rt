@@ -2,10 +2,10 @@
 ghost use Rattle.std.specs.Prelude.{◌≡◌};
 ghost use Rattle.session.specs.declared.failure.Failure.TheVariants.{Memory, Refused as ByRule};
 
-use std::alloc::{AllocError, AllocFailed as Unplaced};
+use std::alloc::{AllocError, AllocFailed};
 use terms::Refusal;
 
-#[derive(Clone, Copy)]
+#[derive(Clone, Copy, Debug, PartialEq, Eq)]
 pub enum Failure {
     // There is not enough memory.
     Memory,
@@ -13,6 +13,7 @@ pub enum Failure {
     Refused(Refusal),
 }
 
+// By hand, as those below: a `From` that is derived has no contract, and what `?` makes of it would not be known.
 impl From<AllocError> for Failure {
     ghost from_gives = { λ _ r. r ≡ Memory };
 
@@ -21,10 +22,10 @@ impl From<AllocError> for Failure {
     }
 }
 
-impl<T: Drop> From<Unplaced<T>> for Failure {
+impl<T: Drop> From<AllocFailed<T>> for Failure {
     ghost from_gives = { λ _ r. r ≡ Memory };
 
-    fn from(_e: Unplaced<T>) -> Failure {
+    fn from(_e: AllocFailed<T>) -> Failure {
         Failure::Memory
     }
 }

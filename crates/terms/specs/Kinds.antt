@@ -1,6 +1,7 @@
 -- The kinds of types by their numbers, and their classes. Assumes nothing.
-use Rattle.std.specs.Prelude.{ℕ, Bool, cond, ◌&&◌, nat_le}
+use Rattle.std.specs.Prelude.{◌≡◌, ℕ, ◌≤◌, Bool, cond, ◌&&◌, Result, MatchResult, nat_le}
 use Rattle.terms.specs.declared.kind.Kind.{Kind}
+use Rattle.terms.specs.declared.kind.UnknownKind.{UnknownKind}
 use Rattle.terms.specs.declared.kind.Kind.TheVariants.{Null, Boolean, Int8, Int16, Int32, Int64, UInt8, UInt16, UInt32, UInt64, Float16, Float32, Float64, Decimal128, Date32, Date64, Timestamp, Interval, Utf8, LargeUtf8, Utf8View, Binary, LargeBinary, BinaryView, List, LargeList, ListView, LargeListView, FixedSizeList, Dictionary}
 
 -- the number of a kind
@@ -39,6 +40,15 @@ kind_number Dictionary = 29
 -- how many kinds there are: the numbers below it are kinds
 abbrev pub kinds : ℕ
 kinds = 30
+
+-- the number tells the kind: no other has it
+pub record Tells (k : Kind) (n : ℕ) : Type 0 where
+  pub value : n ≡ kind_number k
+  pub only : (j : Kind) → kind_number j ≡ n → j ≡ k
+
+-- the kind that has the number, or the number where none has
+abbrev pub Decodes : ℕ → Result Kind UnknownKind → Type 0
+Decodes n r = MatchResult r (λ k. kind_number k ≡ n) (λ e. (kinds ≤ n) × (e.0 ≡ n))
 
 -- from low to high
 abbrev pub between : ℕ → ℕ → ℕ → Bool

@@ -1,5 +1,5 @@
 -- The number and the layer of every refusal. Assumes nothing.
-use Rattle.std.specs.Prelude.{ℕ, Bool, cond, List, [], ◌∷◌, Some, None, Ok, Err, Option, Result}
+use Rattle.std.specs.Prelude.{◌≡◌, ℕ, Bool, cond, List, [], ◌∷◌, ◌++◌, Some, None, Ok, Err, codes, decimal, Option, Result}
 use Rattle.terms.specs.declared.Reason.{Reason}
 use Rattle.terms.specs.declared.Reason.TheVariants.{BufferTooSmall, LabelTooLong, OutOfRange, UnknownPart, BadPart, TooDeep, BadFunction, UnknownFunction, MalformedCall, PositionalAfterNamed, TooManyPositional, UnknownParameter, ParameterGivenTwice, MissingParameter, LabelsFull, TypesFull, FunctionsFull, PlanFull, TooFewFreeTypes, NothingToTakeBack, NothingThere}
 use Rattle.terms.specs.declared.Refusal.{Refusal}
@@ -29,6 +29,11 @@ number PlanFull = 43
 number TooFewFreeTypes = 44
 number NothingToTakeBack = 45
 number NothingThere = 46
+
+-- the number tells the reason: no other has it
+pub record TellsReason (r : Reason) (n : ℕ) : Type 0 where
+  pub value : n ≡ number r
+  pub only : (q : Reason) → number q ≡ n → q ≡ r
 
 -- the layer that refuses
 abbrev pub layer : Reason → Layer
@@ -63,6 +68,10 @@ layer_number State = 5
 -- the refusal of a reason at a place
 abbrev pub refusal : Reason → ℕ → Refusal
 refusal r k = record { reason = r; place = k }
+
+-- the refusal as it is printed: its number, its layer and its place
+abbrev pub refusal_text : Refusal → List ℕ
+refusal_text r = codes "refused " ++ (decimal (number r.reason) ++ (codes " layer " ++ (decimal (layer_number (layer r.reason)) ++ (codes " place " ++ decimal r.place))))
 
 -- the refusal, where there is one
 abbrev pub refusal_of : {T : Type 0} → Result T Refusal → Option Refusal

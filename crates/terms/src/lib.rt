@@ -1,12 +1,14 @@
 // The numbered words of the subject: why something is refused, in which layer, the kinds of types, and the limits.
 #![tactic(auto)]
 
-ghost use Rattle.std.specs.Prelude.{◌≡◌};
-ghost use Rattle.terms.specs.Refusals.{number, layer, layer_number};
+ghost use Rattle.std.specs.Prelude.{◌≡◌, Some};
+ghost use Rattle.terms.specs.Refusals.{number, layer, layer_number, refusal, refusal_text, TellsReason};
+
+use std::fmt;
 
 mod kind;
 
-pub use kind::Kind;
+pub use kind::{Kind, UnknownKind};
 
 // The most arguments that a call has.
 pub const MOST_ARGUMENTS: usize = 16;
@@ -64,7 +66,7 @@ pub const MOST_ENTRIES: usize = 4096;
 pub const ROOM_FOR_CALL: usize = 256;
 
 // Why something is refused, with the number that the refusal is known by.
-#[derive(Clone, Copy)]
+#[derive(Clone, Copy, Debug, PartialEq, Eq)]
 pub enum Reason {
     // A buffer below its least, or a count record that the memory does not vouch for.
     BufferTooSmall = 1,
@@ -110,14 +112,29 @@ pub enum Reason {
     NothingThere = 46,
 }
 
-fn code(reason: Reason) -> u8
-    ensures { result ≡ number reason }
-{
-    reason as u8
+// The number tells the reason: no other has it.
+impl From<Reason> for u8 {
+    ghost from_gives = { TellsReason };
+
+    fn from(reason: Reason) -> u8 {
+        reason as u8
+    }
+}
+
+impl Reason {
+    // The refusal that is about the argument or the parameter at a place.
+    pub fn at(self, place: usize) -> Refusal
+        ensures { result ≡ refusal self place }
+    {
+        Refusal {
+            reason: self,
+            place,
+        }
+    }
 }
 
 // What part of the work refuses.
-#[derive(Clone, Copy)]
+#[derive(Clone, Copy, Debug, PartialEq, Eq)]
 pub enum Layer {
     // Reading what was handed in.
     Reading = 1,
@@ -127,19 +144,28 @@ pub enum Layer {
     State = 5,
 }
 
-impl Layer {
-    pub fn number(self) -> u8
-        ensures { result ≡ layer_number self }
-    {
-        self as u8
+impl From<Layer> for u8 {
+    ghost from_gives = { λ layer n. n ≡ layer_number layer };
+
+    fn from(layer: Layer) -> u8 {
+        layer as u8
     }
 }
 
 // A reason, and which argument or parameter it is about (0 where it is about none).
-#[derive(Clone, Copy)]
+#[derive(Clone, Copy, Debug, PartialEq, Eq)]
 pub struct Refusal {
     pub reason: Reason,
     pub place: usize,
+}
+
+// The refusal that is about no argument and no parameter.
+impl From<Reason> for Refusal {
+    ghost from_gives = { λ reason r. r ≡ refusal reason 0 };
+
+    fn from(reason: Reason) -> Refusal {
+        reason.at(0)
+    }
 }
 
 impl Refusal {
@@ -148,7 +174,7 @@ impl Refusal {
         ensures value { result ≡ number self.now.reason }
         ensures only { (q : Reason) → number q ≡ result → q ≡ self.now.reason }
     {
-        code(self.reason)
+        self.reason.into()
     }
 
     pub fn layer(&self) -> Layer
@@ -169,5 +195,17 @@ impl Refusal {
             | Reason::NothingThere => Layer::State,
             _ => Layer::Reading,
         }
+    }
+}
+
+// The refusal as the program prints it.
+impl fmt::Display for Refusal {
+    ghost output = { λ r. Some (refusal_text r) };
+
+    fn fmt<W: fmt::Write>(&self, f: &mut fmt::Formatter<W>) -> fmt::Result {
+        let number = self.number();
+        let layer = u8::from(self.layer());
+        let place = self.place;
+        write!(f, "refused {number} layer {layer} place {place}")
     }
 }

@@ -26,7 +26,7 @@ not_negative (pos n) = true
 not_negative (negsuc n) = false
 
 -- a size: of a fixed-size list 0 or more, or any size; of any other kind 0
-abbrev pub size_fits : ℕ → ℤ → Bool
+unfoldable pub size_fits : ℕ → ℤ → Bool
 size_fits k z = cond (k == 28) (not_negative z || same_int z any_size) (same_int z (pos 0))
 
 -- whether the label counts: that of a list's field, and the zone of a Timestamp whose flag is 1
@@ -37,11 +37,17 @@ uses_label k f = is_list k || (k == 16 && f == 1)
 abbrev pub flag_fits : ℕ → ℕ → Bool
 flag_fits k f = cond (is_list k || k == 16) (nat_le f 1) (f == 0)
 
+-- the numbers of a record are in the ranges of a kind
+abbrev pub ranges_fit : ℕ → TypeRecord → Bool
+ranges_fit k r = (((unit_fits k r.unit && precision_fits k r.precision) && scale_fits k r.precision r.scale) && size_fits k r.size) && flag_fits k r.flag
+
+-- what a kind does not use is 0
+abbrev pub unused_zero : ℕ → TypeRecord → Bool
+unused_zero k r = ((uses_label k r.flag || r.label == 0) && (has_child k || r.child == 0)) && (is_dictionary k || r.second == 0)
+
 -- the numbers of a record fit a kind: in their ranges, and 0 where the kind does not use them
 abbrev pub numbers_fit : ℕ → TypeRecord → Bool
-numbers_fit k r =
-    ((((((unit_fits k r.unit && precision_fits k r.precision) && scale_fits k r.precision r.scale) && size_fits k r.size) && flag_fits k r.flag) && (uses_label k r.flag || r.label == 0)) && (has_child k || r.child == 0))
-    && (is_dictionary k || r.second == 0)
+numbers_fit k r = ranges_fit k r && unused_zero k r
 
 -- there is such a kind, and the numbers fit it
 abbrev pub in_range : TypeRecord → Bool

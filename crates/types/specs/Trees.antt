@@ -56,10 +56,14 @@ same (node g a b) (node h c d) = same_head g h && (same a c && same b d)
 abbrev pub is_dictionary : ℕ → Bool
 is_dictionary k = k == 29
 
+-- where it ends to go from a type to its child, through kinds to go through
+unfoldable pub within : (ℕ → Bool) → Ty → Ty
+within through none = none
+within through (node h c d) = cond (through h.kind) (within through c) (node h c d)
+
 -- the value of a Dictionary, and of a Dictionary within it, to the innermost; any other type itself
-unfoldable pub innermost : Ty → Ty
-innermost none = none
-innermost (node h c d) = cond (is_dictionary h.kind) (innermost c) (node h c d)
+abbrev pub innermost : Ty → Ty
+innermost t = within is_dictionary t
 
 -- the native kind: that of the innermost value
 abbrev pub native_of : Ty → ℕ
@@ -88,9 +92,8 @@ depth none = 0
 depth (node h c d) = suc (max (depth c) (depth d))
 
 -- the first type within that is no list
-unfoldable pub base_type : Ty → Ty
-base_type none = none
-base_type (node h c d) = cond (is_list h.kind) (base_type c) (node h c d)
+abbrev pub base_type : Ty → Ty
+base_type t = within is_list t
 
 -- how many lists there are from the outside
 unfoldable pub dimensions : Ty → ℕ

@@ -1,5 +1,5 @@
 -- What the numbers of a view stand for. Assumes nothing.
-use Rattle.std.specs.Prelude.{◌≡◌, ℕ, ◌<◌, true, List, length, Some, None, Option}
+use Rattle.std.specs.Prelude.{◌≡◌, ℕ, ◌<◌, Bool, true, List, length, Some, None, Option}
 use Rattle.terms.specs.declared.kind.Kind.{Kind}
 use Rattle.terms.specs.Kinds.{kind_number, kinds, has_child}
 use Rattle.places.specs.declared.record.TypeRecord.{TypeRecord}
@@ -35,3 +35,8 @@ pub record Stands (v : View) (n : ℕ) (r : TypeRecord) : Type 0 where
   pub kind : r.kind < kinds
   pub child : has_child r.kind ≡ true → r.child < n
   pub second : is_dictionary r.kind ≡ true → r.second < n
+
+-- answers about kinds are those of a test, which only kinds that are made of another type pass
+pub record Passes (answers : Kind → Bool → Type 0) (p : ℕ → Bool) : Type 0 where
+  pub told : (k : Kind) (b : Bool) → answers k b → b ≡ p (kind_number k)
+  pub made : (k : ℕ) → p k ≡ true → has_child k ≡ true

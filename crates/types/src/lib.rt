@@ -2,7 +2,9 @@
 #![tactic(auto)]
 
 mod checks;
+mod ranges;
 mod reads;
+mod record;
 mod view;
 
 pub use view::View;

@@ -4,6 +4,7 @@ ghost use Rattle.terms.specs.Limits.{longest_label};
 ghost use Rattle.places.specs.Labels.{spelled, item, zone_wildcard, utc, written, labelled};
 
 use super::Label;
+use fixed::FixedVec;
 use terms::{LONGEST_LABEL, Reason, Refusal};
 
 impl Label {
@@ -12,8 +13,7 @@ impl Label {
         ensures { spelled result ≡ [] }
     {
         Label {
-            bytes: [0; LONGEST_LABEL],
-            len: 0,
+            bytes: FixedVec::new(),
         }
     }
 
@@ -22,11 +22,8 @@ impl Label {
         requires { length text.now ≤ longest_label }
         ensures { spelled result ≡ text.now }
     {
-        let mut bytes = [0; LONGEST_LABEL];
-        bytes[..text.len()].copy_from_slice(text);
         Label {
-            bytes,
-            len: text.len() as u8,
+            bytes: FixedVec::from_slice(text),
         }
     }
 
@@ -35,10 +32,7 @@ impl Label {
         ensures { written result ≡ labelled text.now }
     {
         if text.len() > LONGEST_LABEL {
-            return Err(Refusal {
-                reason: Reason::LabelTooLong,
-                place: 0,
-            });
+            return Err(Reason::LabelTooLong.into());
         }
         Ok(Label::of(text))
     }
@@ -64,10 +58,10 @@ impl Label {
         Label::of(b"+00")
     }
 
-    // Its bytes, without the zeros behind them.
+    // Its bytes.
     pub fn as_bytes(&self) -> &[u8]
         ensures { result.now ≡ spelled self.now }
     {
-        &self.bytes[..self.len as usize]
+        self.bytes.as_slice()
     }
 }

@@ -41,7 +41,7 @@ impl Trial<'_> {
         memory.view(self.counts)
     }
 
-    // Keeps what was added through it.
+    // Keeps what was added through it: what is taken apart is not dropped.
     pub fn keep(self)
         ensures { self.exit.0.now ≡ self.entry.counts.now }
     {

@@ -1,12 +1,11 @@
-use Rattle.std.proofs.Common.{true, false, sym, ◌∙◌}
-use Rattle.printing.proofs.Texts.{word_at, word_all}
+use Rattle.std.proofs.Common.{rules, tests, sym, ◌∙◌}
+use Rattle.std.proofs.lemmas.Iterator.{YieldsList-from_slice}
+use Rattle.std.proofs.lemmas.Iterator.Search.{all_from_yields_List}
+use Rattle.printing.specs.Printing.{word_byte}
+use Rattle.printing.proofs.Texts.{word_bytes-all}
 use Rattle.printing.proofs.has_word_bytes.Goals as goal
 
-pub returns-then-not-is_word_byte : goal.returns-then-not-is_word_byte
-returns-then-not-is_word_byte c = sym (sym c.loop-byte.invariant ∙ word_at c.args.label.now c.loop-byte.byte-index c.loop-byte-test.true false c.if-not-is_word_byte.ensures)
-
-pub loop-byte-preserved : goal.loop-byte-preserved
-loop-byte-preserved c = sym (word_at c.args.label.now c.loop-byte.byte-index c.loop-byte-test.true true c.if-not-is_word_byte.ensures) ∙ c.loop-byte.invariant
-
 pub returns : goal.returns
-returns c = sym (sym c.loop-byte.invariant ∙ word_all c.args.label.now c.loop-byte.byte-index c.loop-byte-test.false)
+returns c =
+    all_from_yields_List word_byte _ _ _ c.all.ensures.ran (YieldsList-from_slice c.args.label.now cc) (λ x b q k. search (rules, tests))
+    ∙ sym (word_bytes-all c.args.label.now)

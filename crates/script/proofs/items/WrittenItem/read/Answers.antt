@@ -1,6 +1,8 @@
-use Rattle.script.proofs.Refusing.{no_argument}
+use Rattle.std.proofs.lemmas.Result.{err_from_is_err_and}
+use Rattle.script.proofs.Refusing.{lacks, no_argument}
 use Rattle.script.proofs.items.WrittenItem.read.Goals as goal
 
-pub returns-in_default-text_of : goal.returns-in_default-text_of
-returns-in_default-text_of c =
-    no_argument c.args.tokens.now c.in-Some.token c.in-Some.rest.now c.in-Some.ensures c.in_default-token.not-Number c.in_default-text_of.ensures
+pub returns-in_err-name : goal.returns-in_err-name
+returns-in_err-name c =
+    let p = err_from_is_err_and c.from_residual.result c.from_residual.ensures.1 in
+    rw (p.1, p.2) (lacks _ _ _ _ c.in_err-name.ensures.value (no_argument c.args.tokens.now c.in_default.ensures) c.split_text.ensures)

@@ -1,0 +1,12 @@
+use Rattle.std.proofs.Common.{arith, rules}
+use Rattle.std.proofs.lemmas.Result.{err_from_is_err_and}
+use Rattle.arguments.proofs.Assigning.{missing, gathered_all}
+use Rattle.arguments.proofs.call.Call.gather.Goals as goal
+
+pub returns-in_err-argument_at : goal.returns-in_err-argument_at
+returns-in_err-argument_at c =
+    let p = err_from_is_err_and c.from_residual.result c.from_residual.ensures.1 in
+    rw (p.1, p.2) (missing c.args.places.now c.args.self.args.now c.loop-k.items c.loop-k.k _ (search rules) c.loop-k.invariant.stand c.in_err-argument_at.ensures)
+
+pub returns : goal.returns
+returns c = gathered_all c.args.places.now c.args.self.args.now c.loop-k.items (omega arith) (λ j l. c.loop-k.invariant.stand j (omega arith))
