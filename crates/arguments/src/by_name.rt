@@ -73,7 +73,7 @@ impl Call<'_> {
         ensures places { IfOk result (λ ps. Assigned (params self.entry) (names self.entry) (length self.entry.arg_names.now) ps) }
     {
         let mut places = [0; MOST_ARGUMENTS];
-        // By index, since each place is claimed against those before it.
+        // Over arguments by number, which refusals name. (In an array: of a list, its length would be said again at each use.)
         for i in 0..self.arg_names.len() {
             places[i] = self.claim_place(i, &places)?;
         }

@@ -53,7 +53,7 @@ impl Call<'_> {
         ensures { outcome result ≡ gathered places.now self.entry.args.now }
     {
         let mut items = FixedVec::new();
-        // By place: `k` is what is asked for, and indexes nothing.
+        // Over places: who has place `k` is asked for each.
         for k in 0..self.args.len() {
             items.push(self.argument_at(places, k)?);
         }

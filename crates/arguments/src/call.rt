@@ -6,7 +6,8 @@ use crate::validate_arguments;
 use crate::written::{Argument, ArgumentName};
 use terms::Refusal;
 
-// The parameters of a call, its arguments with their names, and the text that the names stand in.
+// The parameters of a call, its arguments with their names, and the text that the names stand in. Arguments and names lie
+// apart, as in the function that is ported.
 #[derive(Clone, Copy)]
 pub(crate) struct Call<'a> {
     pub(crate) param_names: &'a [&'a [u8]],

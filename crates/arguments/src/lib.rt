@@ -63,7 +63,7 @@ fn first_named(arg_names: &[Option<ArgumentName>]) -> Option<usize>
     arg_names.iter().position(|arg_name| arg_name.is_some())
 }
 
-// The first argument without one.
+// The first argument without one. (Not one function with a flag: each contract is in the words of where it serves.)
 fn first_unnamed(arg_names: &[Option<ArgumentName>]) -> Option<usize>
     ensures value { result ≡ first_below (λ i. not (named arg_names.now i)) (length arg_names.now) }
     ensures within { IfSome result (λ i. i < length arg_names.now) }

@@ -20,7 +20,8 @@ impl Blank for Argument {
     }
 }
 
-// The name that an argument is written with: a part of a text that the caller lends.
+// The name that an argument is written with: a part of a text that the caller lends. By number and not as a slice, so that
+// one that reaches past its text can be refused.
 #[derive(Clone, Copy, Debug, PartialEq, Eq)]
 pub struct ArgumentName {
     pub start: usize,

@@ -8,7 +8,8 @@ ghost use Rattle.std.specs.Prelude.{◌≡◌, ◌-◌, ◌<◌, ◌≤◌, List
 use std::alloc::AllocError;
 use std::marker::Model;
 
-// Things of which one can stand where none was put.
+// A type with a value for places where nothing was put. (The library's `Default` says what a default may be, and not which
+// value it is.)
 pub trait Blank: Copy {
     ghost blank: { Self };
 
@@ -33,7 +34,8 @@ impl Blank for u16 {
     }
 }
 
-// The things come first, and blanks behind them, so that equal lists are the same value.
+// The things come first, and blanks behind them, so that equal lists are the same value. An array, since nothing is
+// allocated here. Contracts see the list without its bound: a struct that needs the bound says it in a ghost field.
 #[derive(Copy)]
 pub struct FixedVec<T: Blank, const N: usize> {
     items: [T; N],

@@ -19,7 +19,7 @@ impl Exact for TypeRecord {
     ghost exact = { record-exact };
 }
 
-// The first place of what equals the thing.
+// The first place of what equals the thing, by equality alone.
 fn first_equal<T: Eq>(things: &[T], thing: &T) -> Option<usize>
     ensures { result ≡ position (λ x. T.eq x thing.now) things.now }
 {

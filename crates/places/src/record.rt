@@ -1,4 +1,5 @@
-// A type as a record of nine numbers.
+// A type as a record of nine numbers, as they are handed in: each may be out of its range, and is then refused. Parts are
+// named by number, since memory is fixed.
 ghost use Rattle.std.specs.Prelude.{◌≡◌};
 ghost use Rattle.terms.specs.Kinds.{kind_number};
 ghost use Rattle.places.specs.Records.{plain};
@@ -7,7 +8,6 @@ use terms::Kind;
 
 #[derive(Clone, Copy, PartialEq, Eq)]
 pub struct TypeRecord {
-    // As it is handed in: a number that no kind has can be refused.
     pub kind: u8,
     pub unit: u8,
     pub precision: u8,

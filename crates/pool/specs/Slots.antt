@@ -1,5 +1,5 @@
 -- What becomes of lent places that are written one behind another. Assumes nothing.
-use Rattle.std.specs.Prelude.{◌≡◌, ℕ, ◌+◌, ◌-◌, ◌<◌, ◌≤◌, ◌⊎◌, min, Bool, cond, ◌&&◌, List, [], ◌∷◌, map, length, take, slice_set, Some, Result, IsOkAnd, MatchResult, ◌==◌, nat_le}
+use Rattle.std.specs.Prelude.{◌≡◌, ℕ, ◌+◌, ◌-◌, ◌<◌, ◌⊎◌, min, Bool, cond, ◌&&◌, List, [], ◌∷◌, map, length, take, slice_set, Some, Result, IsOkAnd, MatchResult, ◌==◌, nat_le}
 use Rattle.std.specs.List.{slice_get}
 use Rattle.terms.specs.declared.Reason.{Reason}
 use Rattle.terms.specs.declared.Reason.TheVariants.{NothingToTakeBack}
@@ -30,9 +30,8 @@ holds s n types = nat_le n s.high && nat_le (newest s.places.now n) types
 abbrev pub contents : {T : Type 0} {most : ℕ} → Slots (Stamped T) most → ℕ → List T
 contents s n = map (λ x. x.content) (live s n)
 
--- of so many places, which are no fewer than the least, the first hold the things of a list
-pub record Made {T : Type 0} {most : ℕ} (size least : ℕ) (things : List T) (s : Slots T most) : Type 0 where
-  pub enough : least ≤ size
+-- of so many places the first hold the things of a list
+pub record Made {T : Type 0} {most : ℕ} (size : ℕ) (things : List T) (s : Slots T most) : Type 0 where
   pub places : length s.places.now ≡ size
   pub high : s.high ≡ length things
   pub first : live s (length things) ≡ things

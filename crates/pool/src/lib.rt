@@ -3,4 +3,4 @@
 
 mod store;
 
-pub use store::{Counts, Memory, Trial};
+pub use store::{Counts, Lease, Memory, Trial};

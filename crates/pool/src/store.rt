@@ -1,5 +1,6 @@
 // The lent memory, the count record that lies beside it, and the guard over the counts.
-ghost use Rattle.std.specs.Prelude.{◌≡◌};
+ghost use Rattle.std.specs.Prelude.{◌≡◌, ◌≤◌, length};
+ghost use Rattle.terms.specs.Limits.{least_labels, least_types, least_functions, least_entries};
 ghost use Rattle.types.specs.Facts.{Sound, Apart};
 ghost use Rattle.pool.specs.Facts.{Begun, Rising, back};
 
@@ -24,6 +25,19 @@ pub struct Counts {
     types: u16,
     functions: u16,
     entries: u16,
+}
+
+// Slices that the caller lends, none of them below its least.
+#[derive(Drop)]
+pub struct Lease<'m> {
+    labels: &'m mut [Label],
+    types: &'m mut [TypeRecord],
+    functions: &'m mut [Stamped<Function>],
+    entries: &'m mut [Stamped<Entry>],
+    ghost labels_enough: { least_labels ≤ length labels.now },
+    ghost types_enough: { least_types ≤ length types.now },
+    ghost functions_enough: { least_functions ≤ length functions.now },
+    ghost entries_enough: { least_entries ≤ length entries.now },
 }
 
 // Memory that the caller lends. It vouches for what lies below the four heights.

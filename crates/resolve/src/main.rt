@@ -12,7 +12,8 @@ use words::{ArgumentsWords, FunctionWords};
 
 mod words;
 
-// The refusal on standard output, and what it means on standard error.
+// The refusal on standard output, and what it means on standard error. (Handle and line number go along as they are: a
+// struct of them would be made for each line.)
 fn print_refusal(
     rt: &HostRuntime,
     number: u64,

@@ -8,7 +8,8 @@ use crate::fault::{Fault, Part};
 use crate::tokens::{Span, Token};
 use arguments::ArgumentName;
 
-// A word or a quoted text.
+// A word or a quoted text: any label. (An argument's name has a type of its own, by the name that the function ported has
+// for it.)
 #[derive(Clone, Copy, PartialEq, Eq)]
 pub struct Text {
     pub span: Span,

@@ -23,7 +23,7 @@ pub struct FunctionLine {
 pub struct ArgumentsLine {
     pub text: Vec<u8>,
     pub name: Text,
-    // Apart from their names, as `resolve_function_arguments` takes them.
+    // Apart from their names, as `resolve_function_arguments` is lent them.
     pub args: Vec<Argument>,
     pub names: Vec<Option<ArgumentName>>,
 }

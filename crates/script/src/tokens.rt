@@ -9,7 +9,7 @@ ghost use Rattle.script.specs.Seen.{Within, Within-prop, Faulty, Ends};
 use crate::fault::Fault;
 use std::alloc::Global;
 
-// A part of the decoded text.
+// A part of the decoded text. (By number: a slice would borrow the text while it grows.)
 #[derive(Clone, Copy, PartialEq, Eq)]
 pub struct Span {
     pub start: usize,
@@ -152,7 +152,7 @@ impl Lexer {
         Ok(())
     }
 
-    // One token more, and nothing begun.
+    // One token more, and nothing begun. (That it lies within the text is asked here alone, of the token that is given.)
     fn emit(&mut self, token: Token) -> Result<(), Fault>
         requires { Within (length self.old.text.items) token }
         ensures { Grows result (Some (at (done self.old ++ seen self.old.text.items token ∷ []) nothing)) self.new }

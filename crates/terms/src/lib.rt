@@ -152,7 +152,7 @@ impl From<Layer> for u8 {
     }
 }
 
-// A reason, and which argument or parameter it is about (0 where it is about none).
+// A reason, and which argument or parameter it is about: 0 where it is about none, as it is printed.
 #[derive(Clone, Copy, Debug, PartialEq, Eq)]
 pub struct Refusal {
     pub reason: Reason,
@@ -169,7 +169,7 @@ impl From<Reason> for Refusal {
 }
 
 impl Refusal {
-    // The number tells the reason: no other has it.
+    // The number that is printed. It tells the reason: no other has it.
     pub fn number(&self) -> u8
         ensures value { result ≡ number self.now.reason }
         ensures only { (q : Reason) → number q ≡ result → q ≡ self.now.reason }

@@ -1,5 +1,5 @@
 -- Numbers tell types: equal trees have one number. What stands is calm and not too deep. Assumes nothing.
-use Rattle.std.proofs.Common.{◌≡◌, ℕ, ◌<◌, ◌≤◌, true, false, eqb, List, length, get_or, refl, subst, ⊎_elim, arith}
+use Rattle.std.proofs.Common.{◌≡◌, ℕ, ◌<◌, ◌≤◌, true, false, eqb, ℤ, pos, negsuc, List, length, get_or, refl, subst, ⊎_elim, arith}
 use Rattle.std.proofs.lemmas.Option.{gets}
 use Rattle.std.proofs.lemmas.Bool.{cases_Bool}
 use Rattle.std.proofs.lemmas.Bool.Decides.{nat_tests}
@@ -8,9 +8,20 @@ use Rattle.terms.specs.Limits.{deepest_type}
 use Rattle.terms.specs.Kinds.{has_child, is_integer}
 use Rattle.places.specs.declared.record.TypeRecord.{TypeRecord}
 use Rattle.places.specs.Records.{blank}
-use Rattle.types.specs.Trees.{Ty, none, node, kind_of, second_of, head_of, same, wild, depth, Calm, grown, tree, is_dictionary}
+use Rattle.types.specs.Trees.{Head, Ty, none, node, kind_of, second_of, head_of, same_int, same_head, same, wild, depth, Calm, grown, tree, is_dictionary}
 use Rattle.types.specs.Facts.{Sound, Apart}
 use Rattle.types.proofs.Fitting.{Fit, sound-at, tree-at}
+
+-- whole numbers that are the same
+pub same_int-tells : (a b : ℤ) → same_int a b ≡ true → a ≡ b
+same_int-tells (pos m) (pos n) e = grind (arith, nat_tests)
+same_int-tells (pos m) (negsuc n) e = cc
+same_int-tells (negsuc m) (pos n) e = cc
+same_int-tells (negsuc m) (negsuc n) e = grind (arith, nat_tests)
+
+-- heads of the same numbers
+pub same_head-tells : (g h : Head) → same_head g h ≡ true → g ≡ h
+same_head-tells g h e = grind (arith, nat_tests, same_int-tells)
 
 pub same_true : (t u : Ty) → same t u ≡ true → t ≡ u
 unfolding same

@@ -21,8 +21,7 @@ fn take_back(count: &mut u16) -> Result<u16, Refusal>
     Ok(*count)
 }
 
-// Each for functions and for entries, by the name of what a caller means; what both do is done by `Slots`, `read` and
-// `take_back`.
+// One method each for functions and for entries; the work is in `Slots`, `read` and `take_back`.
 impl<'m> Memory<'m> {
     // Appends a function and gives its number; refused with 42 where no place is left.
     pub fn add_function(&mut self, counts: &mut Counts, function: &Function) -> Result<u16, Refusal>

@@ -26,28 +26,19 @@ pub(super) fn read<T>(live: &[T], n: u16) -> Result<&T, Refusal>
 
 impl<'m, T: Copy, const MOST: usize> Slots<'m, T, MOST> {
     ghost use Rattle.std.specs.Prelude.{◌≡◌, ◌<◌, ◌≤◌, ◌^◌, min, length, MatchResult};
-    ghost use Rattle.terms.specs.Refusals.{refusal};
-    ghost use Rattle.terms.specs.declared.Reason.TheVariants.{BufferTooSmall};
     ghost use Rattle.pool.specs.Slots.{room as room_of, live as live_of, Made, Push, Intern};
 
-    // Refusal 1 where fewer than the least are lent. The first hold the things that are given.
-    pub fn new(
-        places: &'m mut [T],
-        least: usize,
-        first: &[T],
-    ) -> Result<Slots<'m, T, MOST>, Refusal>
+    // Lent places, of which the first hold the things that are given.
+    pub fn new(places: &'m mut [T], first: &[T]) -> Slots<'m, T, MOST>
         requires most { MOST < 2 ^ 16 }
-        requires room { length first.now ≤ min least MOST }
-        ensures { MatchResult result (λ s. Made (length places.old) least first.now s) (λ e. (length places.old < least) × (e ≡ refusal BufferTooSmall 0)) }
+        requires room { length first.now ≤ min (length places.old) MOST }
+        ensures { Made (length places.old) first.now result }
     {
-        if places.len() < least {
-            return Err(Reason::BufferTooSmall.into());
-        }
         places[..first.len()].copy_from_slice(first);
-        Ok(Slots {
+        Slots {
             places,
             high: first.len() as u16,
-        })
+        }
     }
 
     // How many places there are.
@@ -97,7 +88,7 @@ impl<T: Copy, const MOST: usize> Slots<'_, Stamped<T>, MOST> {
     ghost use Rattle.std.specs.Prelude.{◌≡◌};
     ghost use Rattle.pool.specs.Slots.{holds as holds_of};
 
-    // Whether so many hold something, over at most so many types.
+    // Whether the first `count` places hold something, written when at most `types` types were live.
     pub fn holds(&self, count: u16, types: u16) -> bool
         ensures { result ≡ holds_of self.now count types }
     {
