@@ -1,7 +1,7 @@
 -- The loops that assign places and gather the arguments, and what comes of them.
-use Rattle.std.proofs.Common.{◌≡◌, ℕ, ◌+◌, ◌<◌, ◌≤◌, Bool, true, false, cond, not, eqb, List, map, length, get_or, set, is_some, Some, None, Ok, Err, Option, Result, unwrap_or, sym, refl, ap, ◌∙◌, arith, below_more, MatchResult}
+use Rattle.std.proofs.Common.{◌≡◌, ℕ, ◌+◌, ◌<◌, ◌≤◌, Bool, true, false, cond, not, eqb, List, [], ◌∷◌, ◌++◌, map, length, take, get_or, set, is_some, Some, None, Ok, Err, Option, Result, unwrap_or, sym, refl, ap, ◌∙◌, arith, below_more, MatchResult}
 use Rattle.std.proofs.lemmas.List.FromFn.{fill_by_all, get_or-map-range_with_len, length-map-range_with_len}
-use Rattle.std.proofs.lemmas.List.{length-set, get_or-set_same, get_or-set_other}
+use Rattle.std.proofs.lemmas.List.{length-append, take_all, length-set, get_or-set_same, get_or-set_other}
 use Rattle.std.specs.List.{range_with_len}
 use Rattle.terms.specs.Refusals.{refusal}
 use Rattle.terms.specs.Limits.{most_arguments}
@@ -83,6 +83,10 @@ module _ (ps : List ℕ) (args : List Argument) where
 
   none_empty : (items : List Argument) (k : ℕ) → AllStand items k → Quiet (empty_in ps (length args)) k
   none_empty items k h j l = (found j (giver_at j) (get_or items j blank) (h j l)).0
+
+  -- there is room for the next argument
+  pub kept : (items : List Argument) (x : Argument) (n : ℕ) → length args ≤ n → length items < length args → take n (items ++ x ∷ []) ≡ items ++ x ∷ []
+  kept items x n few l = take_all n (items ++ x ∷ []) (omega (arith, length-append items (x ∷ [])))
 
   pub missing : (items : List Argument) (k : ℕ) (e : Refusal) → k < length args → AllStand items k → Err e ≡ stands_at args k (giver_at k) → Err e ≡ gathered ps args
   missing items k e l h q =

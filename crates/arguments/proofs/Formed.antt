@@ -25,3 +25,7 @@ module _ (text : List ℕ) (args : List Argument) (names : List (Option Argument
   name_within e i l n h =
       let inside = (well_formed (none-there (malformed text args names) e)).2 i l in
       ltb-false (length text) (n.start + n.len) (ap (outside text) (sym h) ∙ inside)
+
+  -- there are no more arguments than a call has
+  pub few : IsNone (malformed text args names) → length args ≤ most_arguments
+  few e = (well_formed (none-there (malformed text args names) e)).0

@@ -111,26 +111,24 @@ impl<T: Blank, const N: usize> FixedVec<T, N> {
         }
     }
 
-    // These things, which there is room for.
+    // These things, as many of them as there is room for.
     pub fn from_slice(things: &[T]) -> Self
-        requires { length things.now ≤ N }
-        ensures { result ≡ things.now }
+        ensures { result ≡ take N things.now }
     {
+        let len = things.len().min(N);
         let mut items = [T::blank(); N];
-        items[..things.len()].copy_from_slice(things);
-        FixedVec {
-            items,
-            len: things.len(),
-        }
+        items[..len].copy_from_slice(&things[..len]);
+        FixedVec { items, len }
     }
 
     // One thing more at the end, where there is room.
     pub fn push(&mut self, thing: T)
-        requires { length self.old < N }
-        ensures { self.new ≡ self.old ++ thing ∷ [] }
+        ensures { self.new ≡ take N (self.old ++ thing ∷ []) }
     {
-        self.items[self.len] = thing;
-        self.len += 1;
+        if self.len < N {
+            self.items[self.len] = thing;
+            self.len += 1;
+        }
     }
 
     // The things.

@@ -1,4 +1,3 @@
 pub mod Labels
 pub mod Records
 pub mod Finding
-pub mod Exactly

@@ -1,34 +1,36 @@
 // Finding a thing among those that are kept.
-ghost use Rattle.std.specs.Prelude.{◌≡◌, true, position};
-ghost use Rattle.places.specs.Exactly.{label-exact, record-exact};
+ghost use Rattle.std.specs.Prelude.{◌≡◌, Decides};
 ghost use Rattle.places.specs.Finding.{Finds};
 
 use crate::label::Label;
 use crate::record::TypeRecord;
 
-// Things that are equal only where they are the same.
-pub trait Exact: Eq {
-    ghost exact: { (a b : Self) → Self.eq a b ≡ true → a ≡ b };
+// Things of which it can be told whether they are the same.
+pub trait Same {
+    fn same(&self, other: &Self) -> bool
+        ensures { Decides result (self.now ≡ other.now) };
 }
 
-impl Exact for Label {
-    ghost exact = { label-exact };
+impl Same for Label {
+    fn same(&self, other: &Label) -> bool {
+        self.as_bytes() == other.as_bytes()
+    }
 }
 
-impl Exact for TypeRecord {
-    ghost exact = { record-exact };
-}
-
-// The first place of what equals the thing, by equality alone.
-fn first_equal<T: Eq>(things: &[T], thing: &T) -> Option<usize>
-    ensures { result ≡ position (λ x. T.eq x thing.now) things.now }
-{
-    things.iter().position(|kept| kept == thing)
+impl Same for TypeRecord {
+    fn same(&self, other: &TypeRecord) -> bool {
+        *self == *other
+    }
 }
 
 // Where the thing is, if it is there: of several places, any.
-pub fn find<T: Exact>(things: &[T], thing: &T) -> Option<usize>
+pub fn find<T: Same>(things: &[T], thing: &T) -> Option<usize>
     ensures { Finds things.now thing.now result }
 {
-    first_equal(things, thing)
+    for i in 0..things.len() {
+        if things[i].same(thing) {
+            return Some(i);
+        }
+    }
+    None
 }

@@ -9,7 +9,7 @@ mod record;
 mod stamped;
 
 pub use entry::Entry;
-pub use finding::{Exact, find};
+pub use finding::{Same, find};
 pub use function::Function;
 pub use label::Label;
 pub use record::TypeRecord;

@@ -13,7 +13,7 @@ use Rattle.terms.specs.declared.Refusal.{Refusal}
 use Rattle.terms.specs.Limits.{longest_label, first_labels}
 use Rattle.places.specs.declared.label.Label.{Label}
 use Rattle.places.specs.Labels.{spelled, written, labelled}
-use Rattle.places.specs.Exactly.{label-tells, spelled-short}
+use Rattle.places.proofs.Tells.{label-tells, spelled-short}
 use Rattle.pool.specs.declared.store.Counts.{Counts}
 use Rattle.pool.specs.declared.store.Memory.{Memory}
 use Rattle.pool.specs.Facts.{Begun}

@@ -8,7 +8,7 @@ use Rattle.std.proofs.lemmas.Bool.Decides.{nat_tests}
 use Rattle.terms.specs.Limits.{first_labels}
 use Rattle.places.specs.declared.stamped.Stamped.{Stamped}
 use Rattle.places.specs.Labels.{spelled}
-use Rattle.places.specs.Exactly.{label-tells, spelled-short}
+use Rattle.places.proofs.Tells.{label-tells, spelled-short}
 use Rattle.types.specs.Trees.{none, tree, meanings}
 use Rattle.types.proofs.Meanings.{length_meanings}
 use Rattle.types.proofs.Telling.{numbers_tell, flat_at, calm_tree}

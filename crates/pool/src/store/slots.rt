@@ -4,7 +4,7 @@ ghost use Rattle.std.specs.List.{slice_get};
 ghost use Rattle.terms.specs.Refusals.{refusal};
 ghost use Rattle.terms.specs.declared.Reason.TheVariants.{NothingThere};
 
-use places::{Exact, Stamped, find};
+use places::{Same, Stamped, find};
 use terms::{Reason, Refusal};
 
 // Places that the caller lends, at most so many of which are used, and how many of them hold something. (No Vec: this
@@ -29,7 +29,7 @@ impl<'m, T: Copy, const MOST: usize> Slots<'m, T, MOST> {
     ghost use Rattle.pool.specs.Slots.{room as room_of, live as live_of, Made, Push, Intern};
 
     // Lent places, of which the first hold the things that are given.
-    pub fn new(places: &'m mut [T], first: &[T]) -> Slots<'m, T, MOST>
+    pub(super) fn new(places: &'m mut [T], first: &[T]) -> Slots<'m, T, MOST>
         requires most { MOST < 2 ^ 16 }
         requires room { length first.now ≤ min (length places.old) MOST }
         ensures { Made (length places.old) first.now result }
@@ -42,14 +42,14 @@ impl<'m, T: Copy, const MOST: usize> Slots<'m, T, MOST> {
     }
 
     // How many places there are.
-    pub fn room(&self) -> usize
+    pub(super) fn room(&self) -> usize
         ensures { result ≡ room_of self.now }
     {
         self.places.len().min(MOST)
     }
 
     // The first places.
-    pub fn live(&self, count: u16) -> &[T]
+    pub(super) fn live(&self, count: u16) -> &[T]
         requires { count ≤ self.now.high }
         ensures { result.now ≡ live_of self.now count }
     {
@@ -57,7 +57,7 @@ impl<'m, T: Copy, const MOST: usize> Slots<'m, T, MOST> {
     }
 
     // Puts a thing behind the first ones, and gives its number; refused where no place is left.
-    pub fn push(&mut self, count: &mut u16, x: T, full: Reason) -> Result<u16, Refusal>
+    pub(super) fn push(&mut self, count: &mut u16, x: T, full: Reason) -> Result<u16, Refusal>
         ensures { Push self.old count.old x full result self.new count.new }
     {
         let n = *count;
@@ -71,9 +71,9 @@ impl<'m, T: Copy, const MOST: usize> Slots<'m, T, MOST> {
     }
 
     // The number of a thing among the first ones: its old one where it is there, and else the next.
-    pub fn intern(&mut self, count: &mut u16, x: T, full: Reason) -> Result<u16, Refusal>
+    pub(super) fn intern(&mut self, count: &mut u16, x: T, full: Reason) -> Result<u16, Refusal>
     where
-        T: Exact,
+        T: Same,
         requires { count.old ≤ self.old.high }
         ensures { Intern self.old count.old x full result self.new count.new }
     {
@@ -89,7 +89,7 @@ impl<T: Copy, const MOST: usize> Slots<'_, Stamped<T>, MOST> {
     ghost use Rattle.pool.specs.Slots.{holds as holds_of};
 
     // Whether the first `count` places hold something, written when at most `types` types were live.
-    pub fn holds(&self, count: u16, types: u16) -> bool
+    pub(super) fn holds(&self, count: u16, types: u16) -> bool
         ensures { result ≡ holds_of self.now count types }
     {
         count <= self.high
