@@ -1,10 +1,19 @@
--- When memories are the same. Assumes nothing.
-use Rattle.std.proofs.Common.{◌≡◌}
+-- When slots are the same, and memories. Assumes nothing.
+use Rattle.std.proofs.Common.{◌≡◌, ℕ, ap}
 use Rattle.std.proofs.Props.{props}
 use mathlib.Core.HLevel.{is_prop→PathP}
 use Rattle.types.specs.Facts.{Sound, Apart}
 use Rattle.pool.specs.declared.store.Memory.{Memory}
+use Rattle.pool.specs.declared.store.slots.Slots.{Slots}
 use Rattle.pool.specs.Facts.{Begun, Rising}
+
+-- as many places hold something in both, and the same
+pub record SameSlots {T : Type 0} {most : ℕ} (s s' : Slots T most) : Type 0 where
+  pub places : s'.places.now ≡ s.places.now
+  pub high : s'.high ≡ s.high
+
+pub same_slots : {T : Type 0} {most : ℕ} {s s' : Slots T most} → s' ≡ s → SameSlots s s'
+same_slots e = record { places = ap (λ s. s.places.now) e; high = ap (λ s. s.high) e }
 
 -- memories of the same slots are the same
 pub same_memory : (m m' : Memory) → m'.labels ≡ m.labels → m'.types ≡ m.types → m'.functions ≡ m.functions → m'.entries ≡ m.entries → m' ≡ m

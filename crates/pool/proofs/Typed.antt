@@ -39,24 +39,25 @@ same-decides : (t u : Ty) → Decides (same t u) (t ≡ u)
 same-decides t u = (same_true t u, λ e. ap (same t) (sym e) ∙ same-itself t)
 
 -- what a view refuses is what the memory refuses
-unfit-shown : (m : Memory) (c : Counts) (v : View) (r : TypeRecord) → Shows m c v → unfit v.labels (size v) (meant v) r ≡ unfit c.labels c.types (means m) r
+pub unfit-shown : (m : Memory) (c : Counts) (v : View) (r : TypeRecord) → Shows m c v → unfit v.labels (size v) (meant v) r ≡ unfit c.labels c.types (means m) r
 unfit-shown m c v r s = rw (s.labels, s.types) (unfit-same c.labels c.types (meant v) (means m) r s.value)
 
 -- a record that may not stand is refused for that
-pub unfit-leads : (m : Memory) (c : Counts) (v : View) (r : TypeRecord) (e : Refusal) → vouches m c ≡ true → Shows m c v → Some e ≡ plainly (unfit v.labels (size v) (meant v) r) → Some e ≡ plainly (why_type m c r)
-unfit-leads m c v r e w s h =
-    go (vouches m c) (in_range r) (unknown_part c.labels c.types r) (bad_part (means m) r) (too_deep (means m) r) (not (among same (grown (means m) r) (types_of m c)) && leb (rooms_of m).types c.types) w (h ∙ ap plainly (unfit-shown m c v r s))
+pub unfit-leads : (m : Memory) (c : Counts) (r : TypeRecord) (e : Refusal) → vouches m c ≡ true → Some e ≡ plainly (unfit c.labels c.types (means m) r) → Some e ≡ plainly (why_type m c r)
+unfit-leads m c r e v h =
+    go (vouches m c) (in_range r) (unknown_part c.labels c.types r) (bad_part (means m) r) (too_deep (means m) r) (not (among same (grown (means m) r) (types_of m c)) && leb (rooms_of m).types c.types) v h
   where
     go : (a b d f g h : Bool) → a ≡ true → Some e ≡ plainly (first ((not b, OutOfRange) ∷ ((d, UnknownPart) ∷ ((f, BadPart) ∷ ((g, TooDeep) ∷ []))))) → Some e ≡ plainly (first ((not a, BufferTooSmall) ∷ ((not b, OutOfRange) ∷ ((d, UnknownPart) ∷ ((f, BadPart) ∷ ((g, TooDeep) ∷ ((h, TypesFull) ∷ [])))))))
     go a b d f g h p q = grind arith
 
+-- no reason is None
+pub plainly-none : (o : Option Reason) → None ≡ plainly o → o ≡ None
+plainly-none None e = refl
+plainly-none (Some x) e = cc
+
 -- a record that the view does not refuse may stand
 pub may_stand : (m : Memory) (c : Counts) (v : View) (r : TypeRecord) → Shows m c v → None ≡ plainly (unfit v.labels (size v) (meant v) r) → unfit c.labels c.types (means m) r ≡ None
 may_stand m c v r s h = plainly-none _ (h ∙ ap plainly (unfit-shown m c v r s))
-  where
-    plainly-none : (o : Option Reason) → None ≡ plainly o → o ≡ None
-    plainly-none None e = refl
-    plainly-none (Some x) e = cc
 
 -- the record at a live place makes its tree
 pub type_read : (m : Memory) (c : Counts) (n : ℕ) (r : TypeRecord) → Vouch m c → slice_get (records_of m c) n ≡ Some r → TypeRead m c n r

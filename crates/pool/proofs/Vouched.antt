@@ -20,6 +20,7 @@ use Rattle.pool.specs.Held.{labels_of, types_of, means, vouches}
 use Rattle.pool.specs.Laws.{Well}
 use Rattle.pool.proofs.Places.{nth_take, told_map}
 use Rattle.pool.proofs.Stamps.{over}
+use Rattle.pool.proofs.Alike.{SameSlots}
 
 -- the first n places hold something, over at most so many types
 pub record Holds {T : Type 0} {most : ℕ} (s : Slots (Stamped T) most) (n types : ℕ) : Type 0 where
@@ -28,6 +29,10 @@ pub record Holds {T : Type 0} {most : ℕ} (s : Slots (Stamped T) most) (n types
 
 pub wider : {T : Type 0} {most : ℕ} {s : Slots (Stamped T) most} {n types more : ℕ} → Holds s n types → types ≤ more → Holds s n more
 wider h l = record { count = h.count; newest = omega (arith, h.newest) }
+
+-- and so they do in slots of the same things
+pub held : {T : Type 0} {most : ℕ} {s s' : Slots (Stamped T) most} {n types : ℕ} → SameSlots s s' → Holds s n types → Holds s' n types
+held s h = record { count = omega (arith, s.high, h.count); newest = rw s.places h.newest }
 
 -- the tests by which a memory vouches for counts
 pub record Vouch (m : Memory) (c : Counts) : Type 0 where
@@ -77,6 +82,6 @@ module _ (m : Memory) (c : Counts) (v : Vouch m c) where
         entries_over = over m.entries.places.now m.entries.high c.entries c.types m.entries_rising v.entries.count v.entries.newest;
       }
 
--- what lies in the labels and the types alike is vouched for where the rows are
-pub still : {m m' : Memory} {c c' : Counts} → Vouch m c → m'.labels ≡ m.labels → m'.types ≡ m.types → c'.labels ≡ c.labels → c'.types ≡ c.types → Holds m'.functions c'.functions c.types → Holds m'.entries c'.entries c.types → Well m' c'
-still v l t cl ct f e = well _ _ (record { begun = omega arith; labels = cc; types = omega (arith, ap (λ s. s.high) t); functions = rw ct f; entries = rw ct e })
+-- where as many labels and types are there, what is vouched for rests on the rows
+pub still : {m m' : Memory} {c c' : Counts} → Vouch m c → m'.labels.high ≡ m.labels.high → m'.types.high ≡ m.types.high → c'.labels ≡ c.labels → c'.types ≡ c.types → Holds m'.functions c'.functions c.types → Holds m'.entries c'.entries c.types → Well m' c'
+still v l t cl ct f e = well _ _ (record { begun = omega arith; labels = cc; types = omega arith; functions = rw ct f; entries = rw ct e })

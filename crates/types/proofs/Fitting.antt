@@ -11,12 +11,15 @@ use Rattle.terms.specs.Kinds.{kinds, has_child, is_integer}
 use Rattle.places.specs.declared.record.TypeRecord.{TypeRecord}
 use Rattle.places.specs.Records.{blank}
 use Rattle.types.specs.Trees.{Ty, kind_of, wild, depth, grown, tree, is_dictionary}
-use Rattle.types.specs.Checks.{in_range, unknown_part, bad_part, too_deep, unfit, fit}
+use Rattle.types.specs.Checks.{uses_label, in_range, unknown_part, bad_part, too_deep, unfit, fit}
 use Rattle.types.specs.Facts.{Sound}
 use Rattle.types.proofs.Meanings.{Below, tree_set, tree-take, tree_placed, grown-below}
 
--- a record that may stand behind so many types
-pub record Fit (types : ℕ) (f : ℕ → Ty) (r : TypeRecord) : Type 0 where
+-- a record that may stand behind so many labels and types
+pub record Fit (labels types : ℕ) (f : ℕ → Ty) (r : TypeRecord) : Type 0 where
+  pub range : in_range r ≡ true
+  -- its label is there
+  pub label : uses_label r.kind r.flag ≡ true → r.label < labels
   -- what it is made of stands before it, and is no wildcard; a key is an integer
   pub below : Below types r
   pub calm : has_child r.kind ≡ true → wild (f r.child) ≡ false
@@ -31,12 +34,14 @@ pub record Fit (types : ℕ) (f : ℕ → Ty) (r : TypeRecord) : Type 0 where
 pub known-below : (labels n : ℕ) (r : TypeRecord) → unknown_part labels n r ≡ false → Below n r
 known-below labels n r u = record { child = λ e. grind (arith, nat_tests); second = λ e. grind (arith, nat_tests) }
 
-pub fit_parts : (labels types : ℕ) (f : ℕ → Ty) (r : TypeRecord) → fit labels types f r ≡ true → Fit types f r
+pub fit_parts : (labels types : ℕ) (f : ℕ → Ty) (r : TypeRecord) → fit labels types f r ≡ true → Fit labels types f r
 fit_parts labels types f r h =
     let t = four (in_range r) (unknown_part labels types r) (bad_part f r) (too_deep f r) h in
     let n = ends (ltb r.kind kinds) _ _ (has_child r.kind || eqb r.child 0) (is_dictionary r.kind || eqb r.second 0) t.0 in
     let b = bads (has_child r.kind) (wild (f r.child)) (is_dictionary r.kind) (is_integer (kind_of (f r.second))) t.2 in
     record {
+      range = t.0;
+      label = λ e. grind (arith, nat_tests, t.1);
       below = known-below labels types r t.1;
       calm = b.0;
       key = b.1;
@@ -66,7 +71,7 @@ fit_none labels types f r h = go (in_range r) (unknown_part labels types r) (bad
     go a b c d e = grind arith
 
 -- each of the first n records stands over records before it
-pub sound-at : (labels : ℕ) (rs : List TypeRecord) (n k : ℕ) → Sound labels rs n → k < n → Fit k (tree rs) (get_or rs k blank)
+pub sound-at : (labels : ℕ) (rs : List TypeRecord) (n k : ℕ) → Sound labels rs n → k < n → Fit labels k (tree rs) (get_or rs k blank)
 sound-at labels rs n k s h = fit_parts labels k (tree rs) (get_or rs k blank) (s k h)
 
 pub tree-at : (labels : ℕ) (rs : List TypeRecord) (n k : ℕ) → Sound labels rs n → n ≤ length rs → k < n → tree rs k ≡ grown (tree rs) (get_or rs k blank)
@@ -83,21 +88,19 @@ bad_same n f g r b h = go (has_child r.kind) (is_dictionary r.kind) _ _ _ _ (λ 
 pub unfit-same : (labels n : ℕ) (f g : ℕ → Ty) (r : TypeRecord) → ((k : ℕ) → k < n → f k ≡ g k) → unfit labels n f r ≡ unfit labels n g r
 unfit-same labels n f g r h = ⊎_elim (λ u. cc) (λ u. let b = known-below labels n r u in cc (bad_same n f g r b h, grown-below f g n r b h)) (cases_Bool (unknown_part labels n r))
 
-fit_same : (labels n : ℕ) (f g : ℕ → Ty) (r : TypeRecord) → ((k : ℕ) → k < n → f k ≡ g k) → fit labels n f r ≡ true → fit labels n g r ≡ true
+-- nor whether it may stand
+pub fit_same : (labels n : ℕ) (f g : ℕ → Ty) (r : TypeRecord) → ((k : ℕ) → k < n → f k ≡ g k) → fit labels n f r ≡ true → fit labels n g r ≡ true
 fit_same labels n f g r h t = let b = (fit_parts labels n f r t).below in cc (bad_same n f g r b h, grown-below f g n r b h)
 
 -- with more labels a record may still stand
-pub sound-wider : (labels more : ℕ) (rs : List TypeRecord) (n : ℕ) → labels ≤ more → Sound labels rs n → Sound more rs n
-sound-wider labels more rs n h s k l = go (in_range r) (unknown_part labels k r) (unknown_part more k r) (not (bad_part (tree rs) r) && not (too_deep (tree rs) r)) (s k l) (known r)
+pub fit-wider : (labels more n : ℕ) (f : ℕ → Ty) (r : TypeRecord) → labels ≤ more → fit labels n f r ≡ true → fit more n f r ≡ true
+fit-wider labels more n f r h t = go (in_range r) (unknown_part labels n r) (unknown_part more n r) (not (bad_part f r) && not (too_deep f r)) t (λ u. grind (arith, nat_tests))
   where
-    r : TypeRecord
-    r = get_or rs k blank
-
     go : (a b c d : Bool) → (a && (not b && d)) ≡ true → (b ≡ false → c ≡ false) → (a && (not c && d)) ≡ true
     go a b c d e h = grind arith
 
-    known : (r : TypeRecord) → unknown_part labels k r ≡ false → unknown_part more k r ≡ false
-    known r u = grind (arith, nat_tests)
+pub sound-wider : (labels more : ℕ) (rs : List TypeRecord) (n : ℕ) → labels ≤ more → Sound labels rs n → Sound more rs n
+sound-wider labels more rs n h s k l = fit-wider labels more k (tree rs) (get_or rs k blank) h (s k l)
 
 -- the first k records of a sound list are a sound list
 pub sound-take : (labels : ℕ) (rs : List TypeRecord) (h k : ℕ) → Sound labels rs h → k ≤ h → h ≤ length rs → Sound labels (take k rs) (length (take k rs))

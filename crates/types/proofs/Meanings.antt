@@ -26,7 +26,7 @@ pub length_meanings : (rs : List TypeRecord) → length (meanings rs) ≡ length
 unfolding meanings
 length_meanings rs = omega (arith, length_grow [] rs)
 
-keeps-earlier : (rs ss : List TypeRecord) (n : ℕ) → n < length rs → tree (rs ++ ss) n ≡ tree rs n
+pub keeps-earlier : (rs ss : List TypeRecord) (n : ℕ) → n < length rs → tree (rs ++ ss) n ≡ tree rs n
 unfolding tree meanings
 keeps-earlier rs ss n h = let g = grow-front (grow [] rs) ss n in grind (arith, grow-append, length_grow)
 
@@ -44,9 +44,13 @@ pub record Below (n : ℕ) (r : TypeRecord) : Type 0 where
   pub child : has_child r.kind ≡ true → r.child < n
   pub second : is_dictionary r.kind ≡ true → r.second < n
 
--- two meanings that agree below n agree on a record at n
+-- two meanings that agree on the parts of a record agree on it
+pub grown-same : (f g : ℕ → Ty) (r : TypeRecord) → (has_child r.kind ≡ true → f r.child ≡ g r.child) → (is_dictionary r.kind ≡ true → f r.second ≡ g r.second) → grown f r ≡ grown g r
+grown-same f g r p q = grind arith
+
+-- so do two that agree below n, on a record at n
 pub grown-below : (f g : ℕ → Ty) (n : ℕ) (r : TypeRecord) → Below n r → ((k : ℕ) → k < n → f k ≡ g k) → grown f r ≡ grown g r
-grown-below f g n r b h = grind (arith, h)
+grown-below f g n r b h = grown-same f g r (λ e. h r.child (b.child e)) (λ e. h r.second (b.second e))
 
 pub tree-take : (xs : List TypeRecord) (k n : ℕ) → k ≤ length xs → n < k → tree (take k xs) n ≡ tree xs n
 tree-take xs k n h l = let e = keeps-earlier (take k xs) (drop k xs) n in grind (arith, common_steps)

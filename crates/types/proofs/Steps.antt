@@ -7,7 +7,7 @@ use Rattle.places.specs.declared.record.TypeRecord.{TypeRecord}
 use Rattle.types.specs.declared.view.View.{View}
 use Rattle.types.specs.Trees.{Ty, none, node, kind_of, child_of, is_dictionary, depth, within, dimensions, grown}
 use Rattle.types.specs.Views.{meant}
-use Rattle.types.proofs.Viewed.{flat, flat_part}
+use Rattle.types.proofs.Viewed.{flat}
 
 pub within_go : (p : ℕ → Bool) (t : Ty) → p (kind_of t) ≡ true → within p (child_of t) ≡ within p t
 unfolding within
@@ -43,6 +43,6 @@ pub few_dimensions : (v : View) (n : ℕ) → dimensions (meant v n) ≤ deepest
 few_dimensions v n = omega (arith, dimensions-depth (meant v n), flat v n)
 
 -- the steps of a depth, and of a count of lists
-pub ruleset depths = (flat_part, depth-none, depth-grown)
+pub ruleset depths = (flat, depth-none, depth-grown)
 
 pub ruleset counts = (dimensions-list, dimensions-other, nat_tests)

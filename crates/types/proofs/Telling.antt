@@ -44,14 +44,14 @@ unfolding Calm
 calm_none = tt
 
 -- two records that may stand are equal where they say the same over the same numbers
-same_record : (m n : ℕ) (f : ℕ → Ty) (r q : TypeRecord) → Fit m f r → Fit n f q → head_of r ≡ head_of q → (has_child r.kind ≡ true → r.child ≡ q.child) → (is_dictionary r.kind ≡ true → r.second ≡ q.second) → r ≡ q
-same_record m n f r q fr fq e c d = grind (arith, nat_tests)
+same_record : (labels m n : ℕ) (f : ℕ → Ty) (r q : TypeRecord) → Fit labels m f r → Fit labels n f q → head_of r ≡ head_of q → (has_child r.kind ≡ true → r.child ≡ q.child) → (is_dictionary r.kind ≡ true → r.second ≡ q.second) → r ≡ q
+same_record labels m n f r q fr fq e c d = grind (arith, nat_tests)
 
 module _ (labels : ℕ) (rs : List TypeRecord) (size : ℕ) (s : Sound labels rs size) (len : size ≤ length rs) where
   at : (n : ℕ) → n < size → tree rs n ≡ grown (tree rs) (get_or rs n blank)
   at n h = tree-at labels rs size n s len h
 
-  fits : (n : ℕ) → n < size → Fit n (tree rs) (get_or rs n blank)
+  fits : (n : ℕ) → n < size → Fit labels n (tree rs) (get_or rs n blank)
   fits n h = sound-at labels rs size n s h
 
   module _ (apart : Apart rs size) where
@@ -70,21 +70,21 @@ module _ (labels : ℕ) (rs : List TypeRecord) (size : ℕ) (s : Sound labels rs
         let fq = fits n hn in
         let tc = tell c r.child q.child in
         let td = tell d r.second q.second in
-        record_tells m n hm hn (same_record m n (tree rs) r q fr fq (grind arith) (λ e. grind arith) (λ e. grind arith))
+        record_tells m n hm hn (same_record labels m n (tree rs) r q fr fq (grind arith) (λ e. grind arith) (λ e. grind arith))
 
     -- equal trees have one number
     pub numbers_tell : (m n : ℕ) → m < size → n < size → tree rs m ≡ tree rs n → m ≡ n
     numbers_tell m n hm hn e = tell (tree rs n) m n hm hn e refl
 
     -- a record that may stand behind the others is that of a number with its tree
-    pub record_told : (n : ℕ) (r : TypeRecord) → n < size → Fit size (tree rs) r → tree rs n ≡ grown (tree rs) r → get_or rs n blank ≡ r
+    pub record_told : (n : ℕ) (r : TypeRecord) → n < size → Fit labels size (tree rs) r → tree rs n ≡ grown (tree rs) r → get_or rs n blank ≡ r
     record_told n r h f e =
         let q = get_or rs n blank in
         let x = at n h in
         let fq = fits n h in
         let tc = numbers_tell q.child r.child in
         let td = numbers_tell q.second r.second in
-        same_record n size (tree rs) q r fq f (grind arith) (λ t. grind arith) (λ t. grind arith)
+        same_record labels n size (tree rs) q r fq f (grind arith) (λ t. grind arith) (λ t. grind arith)
 
     -- the test on numbers is the test on trees
     pub same_tree : (m n : ℕ) → m < size → n < size → same (tree rs m) (tree rs n) ≡ eqb m n

@@ -11,17 +11,17 @@ use Rattle.places.specs.declared.record.TypeRecord.{TypeRecord}
 use Rattle.places.specs.Records.{blank}
 use Rattle.types.specs.declared.view.View.{View}
 use Rattle.types.specs.Trees.{none, kind_of, second_of, is_dictionary, same, depth}
-use Rattle.types.specs.Views.{size, meant, records, told, Stands}
+use Rattle.types.specs.Views.{size, meant, records, Stands}
 use Rattle.types.proofs.Meanings.{tree-past}
 use Rattle.types.proofs.Telling.{same_tree, flat_at, key_at}
 use Rattle.types.proofs.Fitting.{sound-at, tree-at}
 
-stands_at : (v : View) (n : ℕ) → n < size v → Stands v n (get_or (records v) n blank)
+pub stands_at : (v : View) (n : ℕ) → n < size v → Stands v n (get_or (records v) n blank)
 stands_at v n h =
     let f = sound-at v.labels (records v) (size v) n v.sound h in
     record { within = h; value = tree-at v.labels (records v) (size v) n v.sound (omega arith) h; kind = f.kind; child = f.below.child; second = f.below.second }
 
-past : (v : View) (n : ℕ) → size v ≤ n → meant v n ≡ none
+pub past : (v : View) (n : ℕ) → size v ≤ n → meant v n ≡ none
 past v n h = tree-past (records v) n h
 
 -- the record of a number stands for the tree of the number; none is that of no tree
@@ -44,11 +44,6 @@ same_past v m n =
 pub flat : (v : View) (n : ℕ) → depth (meant v n) ≤ deepest_type
 unfolding depth
 flat v n = ⊎_elim (flat_at v.labels (records v) (size v) v.sound (omega arith) n) (λ h. let e = past v n h in grind arith) (cases_lt n (size v))
-
-pub flat_part : (v : View) (part : Option ℕ) → depth (told v part) ≤ deepest_type
-unfolding depth
-flat_part v None = omega arith
-flat_part v (Some n) = flat v n
 
 -- a key is an integer
 pub key_integer : (v : View) (n : ℕ) → is_dictionary (kind_of (meant v n)) ≡ true → is_integer (kind_of (second_of (meant v n))) ≡ true

@@ -80,38 +80,30 @@ impl View<'_> {
     }
 
     // How many levels a type has, 8 at most.
-    #[tactic(auto, using(crate::proofs::Viewed::flat))]
+    #[cycle(levels)]
+    #[tactic(auto, using(crate::proofs::Steps::depths))]
     pub fn depth(self, n: u16) -> u8
         ensures value { result ≡ levels (meant self.entry n) }
         ensures bound { result ≤ deepest_type }
     {
-        self.levels(Some(n))
-    }
-
-    // How many levels a part has; 0 where there is none.
-    #[cycle(levels)]
-    #[tactic(auto, using(crate::proofs::Steps::depths))]
-    fn levels(self, part: Option<u16>) -> u8
-        ensures { result ≡ levels (told self.entry part) }
-    {
-        if let Some(n) = part
-            && let Some(r) = self.record(n)
-        {
-            self.levels_of(&r)
-        } else {
-            0
+        match self.record(n) {
+            Some(r) => self.levels_of(&r),
+            None => 0,
         }
     }
 
-    // How many levels the type of a record has.
+    // How many levels the type of a record has. What has a second part has a first one too.
     #[cycle(levels)]
     #[tactic(auto, using(crate::proofs::Steps::depths))]
     pub(crate) fn levels_of(self, r: &TypeRecord) -> u8
         ensures { result ≡ levels (grown (meant self.entry) r.now) }
     {
-        1 + self
-            .levels(record::child_of(r))
-            .max(self.levels(record::second_of(r)))
+        let below = match (record::child_of(r), record::second_of(r)) {
+            (Some(value), Some(key)) => self.depth(value).max(self.depth(key)),
+            (Some(element), None) => self.depth(element),
+            (None, _) => 0,
+        };
+        1 + below
     }
 
     // Goes from a type to its child as long as its kind is one to pass through, and says where that ends.

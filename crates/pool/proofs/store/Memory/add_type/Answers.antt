@@ -1,16 +1,18 @@
-use Rattle.std.proofs.Common.{refl, arith}
+use Rattle.std.proofs.Common.{refl, ap, ◌∙◌, arith}
 use Rattle.std.proofs.lemmas.Bool.{MatchBool-at_true}
 use Rattle.std.proofs.lemmas.Result.{err_from_is_err_and}
+use Rattle.terms.specs.Refusals.{plainly}
 use Rattle.pool.proofs.Vouched.{vouch}
 use Rattle.pool.proofs.Pushed.{apart_interned}
-use Rattle.pool.proofs.Typed.{unfit-leads, may_stand, sound_added, type_added}
+use Rattle.pool.proofs.Typed.{unfit-shown, unfit-leads, may_stand, sound_added, type_added}
 use Rattle.pool.proofs.store.Memory.add_type.Goals as goal
 
 pub returns-in_err-check-2 : goal.returns-in_err-check-2
 returns-in_err-check-2 c =
     let v = c.in_ok-check.ensures.well.vouched in
     let p = err_from_is_err_and c.from_residual-in_err-check-2.result c.from_residual-in_err-check-2.ensures.1 in
-    rw (p.1, p.2) record { refused = unfit-leads c.args.self.now c.args.counts.now c.view.result c.args.r c.in_err-check-2.field-0.0 v (MatchBool-at_true _ _ v c.view.ensures) c.in_err-check-2.ensures; done = (refl, refl) }
+    let shown = unfit-shown c.args.self.now c.args.counts.now c.view.result c.args.r (MatchBool-at_true _ _ v c.view.ensures) in
+    rw (p.1, p.2) record { refused = unfit-leads c.args.self.now c.args.counts.now c.args.r c.in_err-check-2.field-0.0 v (c.in_err-check-2.ensures ∙ ap plainly shown); done = (refl, refl) }
 
 pub intern-requires : goal.intern-requires
 intern-requires c = (omega arith, (vouch c.args.self.now c.args.counts.now c.in_ok-check.ensures.well.vouched).types)
