@@ -31,7 +31,7 @@ fn add_function(
     number: u64,
     line: &FunctionLine,
 ) -> anyhow::Result<()> {
-    match session.add_function(line) {
+    match session.add_function(rt.alloc(), &line.text, line) {
         Ok(n) => println!(rt; "function {n}")?,
         Err(Failure::Refused(refusal)) => {
             print_refusal(rt, number, refusal, &FunctionWords { refusal, line })?;
@@ -48,7 +48,7 @@ fn resolve(
     line: &ArgumentsLine,
 ) -> anyhow::Result<()> {
     let heap = rt.alloc();
-    match session.answer(heap, line) {
+    match session.answer(heap, &line.text, line) {
         Ok(answer) => println!(rt; "arguments {answer}")?,
         Err(Failure::Refused(refusal)) => {
             let params = match session.newest(line.name.span.part_of(&line.text)) {

@@ -22,7 +22,7 @@ expected Unfinished f p = absurd p
 expected (Expected what) f p = f p
 
 -- no comment says what its tokens are
-says-lex : (line : List ℕ) → false ≡ comment line → says line ≡ lex line
+pub says-lex : (line : List ℕ) → false ≡ comment line → says line ≡ lex line
 says-lex line e = ap (λ b. cond b (Some []) (lex line)) (sym e)
 
 -- what the bytes say is shown through a text, and lies within it

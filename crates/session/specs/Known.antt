@@ -30,12 +30,12 @@ abbrev pub text_bytes : List ℕ → Text → List ℕ
 text_bytes text t = bytes text t.span
 
 -- the function that a line writes
-abbrev pub writes : FunctionLine → Known
-writes f = record { name = text_bytes (vec_items f.text) f.name; params = map (text_bytes (vec_items f.text)) (vec_items f.params) }
+abbrev pub writes : List ℕ → FunctionLine → Known
+writes text f = record { name = text_bytes text f.name; params = map (text_bytes text) (vec_items f.params) }
 
 -- the function that was taken
 abbrev pub known : Function → Known
-known f = writes f.line
+known f = writes (vec_items f.line.text) f.line
 
 -- the functions of a session, in their order
 abbrev pub functions : Session → List Known
@@ -65,20 +65,16 @@ unfoldable pub newest : List ℕ → List Known → Option Known
 newest name [] = None
 newest name (f ∷ fs) = or_else (newest name fs) (when (bytes_eq f.name name) f)
 
--- the name of the function that a line has arguments for
-abbrev pub called : ArgumentsLine → List ℕ
-called a = text_bytes (vec_items a.text) a.name
-
 -- what the arguments of a line come to for a function
-abbrev pub Comes : ArgumentsLine → Known → Outcome → Type 0
-Comes a f o = Resolution f.params (vec_items a.text) (vec_items a.args) (vec_items a.names) o
+abbrev pub Comes : List ℕ → ArgumentsLine → Known → Outcome → Type 0
+Comes text a f o = Resolution f.params text (vec_items a.args) (vec_items a.names) o
 
 -- the text of the arguments by place, each under its parameter
-abbrev pub Shows : ArgumentsLine → Known → List ℕ → Type 0
-Shows a f s = (answer : List Argument) × Comes a f (Ok answer) × (s ≡ placed_text (called a) f.params answer)
+abbrev pub Shows : List ℕ → ArgumentsLine → Known → List ℕ → Type 0
+Shows text a f s = (answer : List Argument) × Comes text a f (Ok answer) × (s ≡ placed_text (text_bytes text a.name) f.params answer)
 
 -- the newest function of the name and the text of the answer, or the refusal: 20 where no function has the name
-abbrev pub Answers : List Known → ArgumentsLine → Result (String Global) Failure → Type 0
-Answers fs a (Ok s) = MatchOption (newest (called a) fs) ⊥ (λ f. Shows a f (string_bytes s))
-Answers fs a (Err (Refused e)) = MatchOption (newest (called a) fs) (e ≡ refusal UnknownFunction 0) (λ f. Comes a f (Err e))
-Answers fs a (Err Memory) = Unit {0}
+abbrev pub Answers : List Known → List ℕ → ArgumentsLine → Result (String Global) Failure → Type 0
+Answers fs text a (Ok s) = MatchOption (newest (text_bytes text a.name) fs) ⊥ (λ f. Shows text a f (string_bytes s))
+Answers fs text a (Err (Refused e)) = MatchOption (newest (text_bytes text a.name) fs) (e ≡ refusal UnknownFunction 0) (λ f. Comes text a f (Err e))
+Answers fs text a (Err Memory) = Unit {0}

@@ -1,4 +1,5 @@
-// The functions that were written so far, and what comes of the arguments written for one.
+// The functions that were written so far, and what comes of the arguments written for one. The text of a line comes
+// beside it, and not from it, so that a caller may lend one that is not his own.
 #![tactic(auto)]
 
 ghost use Rattle.std.specs.Prelude.{◌≡◌, ◌||◌, []};
@@ -31,10 +32,9 @@ fn is_long(label: &[u8]) -> bool
 }
 
 // Whether the name or a parameter has too many bytes.
-fn has_long_label(line: &FunctionLine) -> bool
-    ensures { result ≡ (long (writes line.now).name || any_long (writes line.now).params) }
+fn has_long_label(text: &[u8], line: &FunctionLine) -> bool
+    ensures { result ≡ (long (writes text.now line.now).name || any_long (writes text.now line.now).params) }
 {
-    let text = line.text.as_slice();
     is_long(line.name.span.part_of(text))
         || line
             .params
@@ -43,10 +43,10 @@ fn has_long_label(line: &FunctionLine) -> bool
 }
 
 // Refuses a function that is not taken.
-fn check(line: &FunctionLine) -> Result<(), Refusal>
-    ensures { refusal_of result ≡ unfit (writes line.now) }
+fn check(text: &[u8], line: &FunctionLine) -> Result<(), Refusal>
+    ensures { refusal_of result ≡ unfit (writes text.now line.now) }
 {
-    if has_long_label(line) {
+    if has_long_label(text, line) {
         return Err(Reason::LabelTooLong.into());
     }
     if line.params.len() > MOST_PARAMETERS {
@@ -66,12 +66,21 @@ impl Session {
     }
 
     // Takes one function more. The answer is its number.
-    pub fn add_function(&mut self, line: &FunctionLine) -> Result<usize, Failure>
-        ensures { Adds (functions self.old) (writes line.now) result (functions self.new) }
+    pub fn add_function(
+        &mut self,
+        heap: Global,
+        text: &[u8],
+        line: &FunctionLine,
+    ) -> Result<usize, Failure>
+        ensures { Adds (functions self.old) (writes text.now line.now) result (functions self.new) }
     {
-        check(line)?;
+        check(text, line)?;
         let number = self.functions.len();
-        let line = line.clone()?;
+        let line = FunctionLine {
+            text: Vec::from_slice(heap, text)?,
+            name: line.name,
+            params: Vec::from_slice(heap, &line.params)?,
+        };
         self.functions.push(Function { line })?;
         Ok(number)
     }
@@ -87,14 +96,14 @@ impl Session {
     }
 
     // The arguments of a line as text, each under its parameter, for the function that it names.
-    pub fn answer(&self, heap: Global, line: &ArgumentsLine) -> Result<String, Failure>
-        ensures { Answers (functions self.now) line.now result }
+    pub fn answer(&self, heap: Global, text: &[u8], line: &ArgumentsLine) -> Result<String, Failure>
+        ensures { Answers (functions self.now) text.now line.now result }
     {
-        let name = line.name.span.part_of(&line.text);
+        let name = line.name.span.part_of(text);
         let unknown = Refusal::from(Reason::UnknownFunction);
         let function = self.newest(name).ok_or(unknown)?;
         let params = function.param_names(heap)?;
-        let resolved = resolve_function_arguments(&params, &line.args, &line.names, &line.text)?;
+        let resolved = resolve_function_arguments(&params, &line.args, &line.names, text)?;
         Ok(placed_text(heap, name, &params, resolved.as_slice())?)
     }
 }
