@@ -10,7 +10,7 @@ use Rattle.std.specs.Int.{is_in_range}
 use Rattle.std.specs.List.{flat_map}
 use Rattle.script.specs.Tokens.{Tok, word, quoted, State, nothing, in_word, in_quote, in_escape, in_high, in_low, class, goes_on, hex_value, at, begins, step, and_then, run, finish, lex}
 use Rattle.printing.specs.Printing.{word_byte, word_bytes, is_word, hex_digit, hexed, escaped, quoted_text, label_text}
-use Rattle.printing.specs.Reading.{label_token, Reads}
+use Rattle.printing.specs.Reading.{label_token, ReadsBack, Reads}
 
 -- the machine, one byte on
 run_step : (s t : State) (b : ℕ) (rest : List ℕ) → step s b ≡ Some t → run s (b ∷ rest) ≡ run t rest
@@ -66,7 +66,7 @@ module _ (ts : List Tok) where
       ∙ bytes_run (w ++ b ∷ []) bs rest (λ i. h (suc i))
       ∙ ap (λ (x : List ℕ). run (at ts (in_quote x)) rest) (append_assoc w (b ∷ []) bs)
 
-quoted-back : (label : List ℕ) → ((i : ℕ) → get_or label i 0 < 256) → lex (quoted_text label) ≡ Some (quoted label ∷ [])
+pub quoted-back : (label : List ℕ) → ((i : ℕ) → get_or label i 0 < 256) → ReadsBack (quoted_text label) (quoted label)
 quoted-back label h =
     ap (λ (o : Option State). and_then o finish)
     (run_step (at [] nothing) (at [] (in_quote [])) 34 (flat_map escaped label ++ 34 ∷ []) refl
@@ -112,7 +112,7 @@ word_back (b ∷ bs) h =
     (run_step (at [] nothing) (at [] (in_word (b ∷ []))) b bs (ap (begins [] b) (begins_word (class 97) (class 48) _ (is_in_range 48 57 b) (is_in_range 65 90 b) (is_in_range 97 122 b) (eqb b 95) p.0 q.0))
     ∙ word-run (b ∷ []) bs q.1)
 
-label-back : (label : List ℕ) → ((i : ℕ) → get_or label i 0 < 256) → lex (label_text label) ≡ Some (label_token label ∷ [])
+pub label-back : (label : List ℕ) → ((i : ℕ) → get_or label i 0 < 256) → ReadsBack (label_text label) (label_token label)
 label-back label h = go (is_word label) refl
   where
     go : (x : Bool) → is_word label ≡ x → lex (cond x label (quoted_text label)) ≡ Some (cond x (word label) (quoted label) ∷ [])
@@ -120,7 +120,7 @@ label-back label h = go (is_word label) refl
     go false e = quoted-back label h
 
 -- the same of what a text gains
-gained : (before text after : List ℕ) (t : Tok) → lex text ≡ Some (t ∷ []) → after ≡ before ++ text → Reads before after t
+gained : (before text after : List ℕ) (t : Tok) → ReadsBack text t → after ≡ before ++ text → Reads before after t
 gained before text after t h e = ap lex (ap (drop (length before)) e ∙ drop_at before text (length before) refl) ∙ h
 
 module _ {X Y : Type 0} (r : Result X Y) (label before after : List ℕ) (bytes : (i : ℕ) → get_or label i 0 < 256) where

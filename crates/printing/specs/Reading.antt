@@ -7,6 +7,10 @@ use Rattle.printing.specs.Printing.{is_word}
 abbrev pub label_token : List ℕ → Tok
 label_token label = cond (is_word label) (word label) (quoted label)
 
--- what a text has gained, read as a line, is this one token
+-- a text, read as a line, is this one token
+abbrev pub ReadsBack : List ℕ → Tok → Type 0
+ReadsBack text t = lex text ≡ Some (t ∷ [])
+
+-- what a text has gained reads back
 abbrev pub Reads : List ℕ → List ℕ → Tok → Type 0
-Reads before after t = lex (drop (length before) after) ≡ Some (t ∷ [])
+Reads before after t = ReadsBack (drop (length before) after) t

@@ -1,16 +1,16 @@
 // Labels and arguments as they are printed.
 #![tactic(auto)]
 
-ghost use Rattle.std.specs.Prelude.{◌≡◌, [], ◌++◌, IfOk, Some, string_bytes, if◌then◌else◌, codes, OnOk, nat_lt};
-ghost use Rattle.std.specs.Option.{option_map};
-ghost use Rattle.printing.specs.Printing.{word_byte, word_bytes, is_word, hexed, escaped, quoted_text, label_text, under, piece, placed_text};
-ghost use Rattle.printing.specs.Reading.{label_token, Reads};
+ghost use Rattle.std.specs.Prelude.{◌≡◌, ◌<◌, true, [], ◌∷◌, ◌++◌, IfOk, Some, string_bytes, if◌then◌else◌, codes, OnOk, nat_lt};
+ghost use Rattle.std.specs.List.{slice_get};
+ghost use Rattle.printing.specs.Printing.{word_byte, word_bytes, is_word, hex_digit, hexed, escaped, quoted_text, label_text, under, piece, placed_text};
+ghost use Rattle.printing.specs.Reading.{label_token, ReadsBack, Reads};
 ghost use Rattle.arguments.specs.View.{bytes_of};
 ghost use Rattle.script.specs.Tokens.{quoted};
 
 use arguments::Argument;
 use std::alloc::{AllocError, Global};
-use std::fmt;
+use std::fmt::{self, Display};
 
 // A label as a script writes it: a word, or in quotes.
 #[derive(Clone, Copy)]
@@ -27,10 +27,6 @@ struct Escaped(u8);
 // A byte by its number.
 #[derive(Clone, Copy)]
 struct Hexed(u8);
-
-// What stands before an argument: its parameter, where it has one.
-#[derive(Clone, Copy)]
-struct Under<'a>(Option<&'a [u8]>);
 
 fn is_word_byte(byte: u8) -> bool
     ensures { result ≡ word_byte byte }
@@ -54,62 +50,109 @@ fn is_word(label: &[u8]) -> bool
     }
 }
 
-impl fmt::Display for Label<'_> {
-    ghost output = { λ l. Some (label_text l.0.now) };
-
-    fn fmt<W: fmt::Write>(&self, f: &mut fmt::Formatter<W>) -> fmt::Result {
-        if !is_word(self.0) {
-            return write!(f, "{}", Quoted(self.0));
-        }
-        for byte in self.0 {
-            write!(f, "{}", char::from(*byte))?;
-        }
-        Ok(())
+fn hex_digit(value: u8) -> u8
+    ensures { result ≡ hex_digit value }
+{
+    match value {
+        0..10 => b'0' + value,
+        10..16 => b'A' + (value - 10),
+        _ => b'?',
     }
 }
 
-impl fmt::Display for Quoted<'_> {
+impl<'a> Label<'a> {
+    // The label to be printed, which reads back as that label.
+    pub fn new(label: &'a [u8]) -> Label<'a>
+        ensures value { result.0.now ≡ label.now }
+        ensures reads { ReadsBack (label_text result.0.now) (label_token label.now) }
+    {
+        Label(label)
+    }
+}
+
+impl<'a> Quoted<'a> {
+    // The label to be printed in quotes, which reads back as that label.
+    pub fn new(label: &'a [u8]) -> Quoted<'a>
+        ensures value { result.0.now ≡ label.now }
+        ensures reads { ReadsBack (quoted_text result.0.now) (quoted label.now) }
+    {
+        Quoted(label)
+    }
+}
+
+impl Display for Label<'_> {
+    ghost output = { λ l. Some (label_text l.0.now) };
+
+    #[tactic(auto, using(crate::proofs::Texts::word_utf8))]
+    fn fmt<W: fmt::Write>(&self, f: &mut fmt::Formatter<W>) -> fmt::Result {
+        match str::from_utf8(self.0) {
+            Ok(word) if is_word(self.0) => f.write_str(word),
+            _ => Quoted::new(self.0).fmt(f),
+        }
+    }
+}
+
+impl Display for Quoted<'_> {
     ghost output = { λ q. Some (quoted_text q.0.now) };
 
     fn fmt<W: fmt::Write>(&self, f: &mut fmt::Formatter<W>) -> fmt::Result {
-        write!(f, "\"")?;
+        f.write_str("\"")?;
         for byte in self.0 {
-            write!(f, "{}", Escaped(*byte))?;
+            Escaped(*byte).fmt(f)?;
         }
-        write!(f, "\"")
+        f.write_str("\"")
     }
 }
 
-impl fmt::Display for Escaped {
+impl Display for Escaped {
     ghost output = { λ e. Some (escaped e.0) };
 
     fn fmt<W: fmt::Write>(&self, f: &mut fmt::Formatter<W>) -> fmt::Result {
         match self.0 {
-            b'"' => write!(f, "\\\""),
-            b'\\' => write!(f, "\\\\"),
-            byte @ b' '..=b'~' => write!(f, "{}", char::from(byte)),
-            byte => write!(f, "{}", Hexed(byte)),
+            b'"' => f.write_str("\\\""),
+            b'\\' => f.write_str("\\\\"),
+            byte @ b' '..=b'~' => f.write_char(char::from(byte)),
+            byte => Hexed(byte).fmt(f),
         }
     }
 }
 
-impl fmt::Display for Hexed {
+impl Display for Hexed {
     ghost output = { λ h. Some (hexed h.0) };
 
     fn fmt<W: fmt::Write>(&self, f: &mut fmt::Formatter<W>) -> fmt::Result {
-        let byte = self.0;
-        write!(f, "\\x{byte:02X}")
+        f.write_str("\\x")?;
+        f.write_char(char::from(hex_digit(self.0 / 16)))?;
+        f.write_char(char::from(hex_digit(self.0 % 16)))
     }
 }
 
-impl fmt::Display for Under<'_> {
-    ghost output = { λ u. Some (under (option_map (λ p. p.now) u.0)) };
+// One byte of ASCII.
+fn push_ascii(out: &mut String, byte: u8) -> Result<(), AllocError>
+    requires { byte < 128 }
+    ensures { OnOk result (string_bytes out.new ≡ string_bytes out.old ++ byte ∷ []) }
+{
+    out.push(char::from(byte))
+}
 
-    fn fmt<W: fmt::Write>(&self, f: &mut fmt::Formatter<W>) -> fmt::Result {
-        match self.0 {
-            Some(param) => write!(f, "{}: ", Label(param)),
-            None => Ok(()),
-        }
+// One byte by its number.
+fn push_hex(out: &mut String, byte: u8) -> Result<(), AllocError>
+    ensures { OnOk result (string_bytes out.new ≡ string_bytes out.old ++ hexed byte) }
+{
+    out.push_str("\\x")?;
+    push_ascii(out, hex_digit(byte / 16))?;
+    push_ascii(out, hex_digit(byte % 16))
+}
+
+// One byte in quotes.
+fn push_escaped(out: &mut String, byte: u8) -> Result<(), AllocError>
+    ensures { OnOk result (string_bytes out.new ≡ string_bytes out.old ++ escaped byte) }
+{
+    match byte {
+        b'"' => out.push_str("\\\""),
+        b'\\' => out.push_str("\\\\"),
+        b' '..=b'~' => push_ascii(out, byte),
+        _ => push_hex(out, byte),
     }
 }
 
@@ -118,7 +161,23 @@ pub fn push_quoted(out: &mut String, label: &[u8]) -> Result<(), AllocError>
     ensures value { OnOk result (string_bytes out.new ≡ string_bytes out.old ++ quoted_text label.now) }
     ensures reads { OnOk result (Reads (string_bytes out.old) (string_bytes out.new) (quoted label.now)) }
 {
-    write!(out, "{}", Quoted(label))
+    push_ascii(out, b'"')?;
+    for byte in label {
+        push_escaped(out, *byte)?;
+    }
+    push_ascii(out, b'"')
+}
+
+// A word as it is.
+#[tactic(auto, using(crate::proofs::Texts::word_ascii))]
+fn push_word(out: &mut String, word: &[u8]) -> Result<(), AllocError>
+    requires { word_bytes word.now ≡ true }
+    ensures { OnOk result (string_bytes out.new ≡ string_bytes out.old ++ word.now) }
+{
+    for byte in word {
+        push_ascii(out, *byte)?;
+    }
+    Ok(())
 }
 
 // A label as a script writes it, a word or in quotes, which reads back as that label.
@@ -126,14 +185,29 @@ pub fn push_label(out: &mut String, label: &[u8]) -> Result<(), AllocError>
     ensures value { OnOk result (string_bytes out.new ≡ string_bytes out.old ++ label_text label.now) }
     ensures reads { OnOk result (Reads (string_bytes out.old) (string_bytes out.new) (label_token label.now)) }
 {
-    write!(out, "{}", Label(label))
+    if is_word(label) {
+        push_word(out, label)
+    } else {
+        push_quoted(out, label)
+    }
 }
 
-// What stands between the argument at a place and the one before it.
-fn comma_before(place: usize) -> &'static str
-    ensures { result.now ≡ (if nat_lt 0 place then codes ", " else []) }
+// A comma behind what is not the first.
+fn push_comma(out: &mut String, place: usize) -> Result<(), AllocError>
+    ensures { OnOk result (string_bytes out.new ≡ string_bytes out.old ++ (if nat_lt 0 place then codes ", " else [])) }
 {
-    if place > 0 { ", " } else { "" }
+    out.push_str(if place > 0 { ", " } else { "" })
+}
+
+// The parameter at a place, where there is one.
+fn push_under(out: &mut String, params: &[&[u8]], place: usize) -> Result<(), AllocError>
+    ensures { OnOk result (string_bytes out.new ≡ string_bytes out.old ++ under (slice_get (bytes_of params.now) place)) }
+{
+    if let Some(param) = params.get(place) {
+        push_label(out, param)?;
+        out.push_str(": ")?;
+    }
+    Ok(())
 }
 
 // The argument at its place, behind a comma unless it is the first, and under its parameter where there is one.
@@ -145,9 +219,9 @@ fn push_argument(
 ) -> Result<(), AllocError>
     ensures { OnOk result (string_bytes out.new ≡ string_bytes out.old ++ piece (bytes_of params.now) place arg.now) }
 {
-    let comma = comma_before(place);
-    let under = Under(params.get(place).copied());
-    write!(out, "{comma}{under}{}", arg.id)
+    push_comma(out, place)?;
+    push_under(out, params, place)?;
+    write!(out, "{}", arg.id)
 }
 
 // A function's name and the arguments by place, each under its parameter where there is one.
@@ -159,10 +233,12 @@ pub fn placed_text(
 ) -> Result<String, AllocError>
     ensures { IfOk result (λ s. string_bytes s ≡ placed_text name.now (bytes_of params.now) args.now) }
 {
-    let mut out = format!(in heap; "{}(", Label(name))?;
+    let mut out = String::new(heap);
+    push_label(&mut out, name)?;
+    push_ascii(&mut out, b'(')?;
     for (place, arg) in args.iter().enumerate() {
         push_argument(&mut out, params, place, arg)?;
     }
-    write!(out, ")")?;
+    push_ascii(&mut out, b')')?;
     Ok(out)
 }

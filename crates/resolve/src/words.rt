@@ -45,14 +45,14 @@ impl fmt::Display for FunctionWords<'_> {
         let line = self.line;
         match self.refusal.reason {
             Reason::LabelTooLong => {
-                let label = Label(too_long(line));
+                let label = Label::new(too_long(line));
                 write!(
                     f,
                     "{label} is too long a name: shorten it to {LONGEST_LABEL} bytes"
                 )
             }
             _ => {
-                let name = Label(line.name.span.part_of(&line.text));
+                let name = Label::new(line.name.span.part_of(&line.text));
                 let count = line.params.len();
                 write!(
                     f,
@@ -66,7 +66,7 @@ impl fmt::Display for FunctionWords<'_> {
 impl fmt::Display for ArgumentsWords<'_> {
     fn fmt<W: fmt::Write>(&self, f: &mut fmt::Formatter<W>) -> fmt::Result {
         let line = self.line;
-        let function = Label(line.name.span.part_of(&line.text));
+        let function = Label::new(line.name.span.part_of(&line.text));
         let place = self.refusal.place;
         let nth = place.saturating_add(1);
         let id = line.args.get(place).map_or(0, |arg| arg.id);
@@ -109,7 +109,7 @@ impl fmt::Display for ArgumentsWords<'_> {
                 )
             }
             Reason::MissingParameter => {
-                let param = Label(self.params.get(place).copied().unwrap_or(&[]));
+                let param = Label::new(self.params.get(place).copied().unwrap_or(&[]));
                 write!(
                     f,
                     "parameter {param} of {function} has no argument: give it one, or leave out what stands behind it"
@@ -132,7 +132,7 @@ impl fmt::Display for Labels<'_> {
             if k > 0 {
                 write!(f, ", ")?;
             }
-            write!(f, "{}", Label(label))?;
+            write!(f, "{}", Label::new(label))?;
         }
         Ok(())
     }
@@ -150,9 +150,9 @@ impl fmt::Display for Name<'_> {
         } = name;
         let label = Span { start, len }.part_of(self.text);
         if is_quoted {
-            write!(f, "{}", Quoted(label))
+            write!(f, "{}", Quoted::new(label))
         } else {
-            write!(f, "{}", Label(label))
+            write!(f, "{}", Label::new(label))
         }
     }
 }

@@ -9,4 +9,4 @@ loop-place-preserved c = pieces_more (bytes_of c.args.params.now) c.args.args.no
 pub returns : goal.returns
 returns c =
     let all = pieces_all (bytes_of c.args.params.now) c.args.args.now c.loop-place.place (string_bytes c.loop-place.out) _ c.loop-place-test.false c.loop-place.invariant in
-    rw (c.in_ok-write.ensures.bytes, all, c.in_ok-out.ensures.ok) (simp append_assoc)
+    rw (c.in_ok-push_ascii-2.ensures, all, c.in_ok-push_ascii.ensures, c.in_ok-push_label.ensures.value, c.new-out.ensures.bytes) (simp append_assoc)
