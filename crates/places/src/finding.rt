@@ -23,7 +23,7 @@ impl Same for TypeRecord {
     }
 }
 
-// Where the thing is, if it is there: of several places, any.
+// Where the thing is, if it is there: of several places, any. (Place by place, as its proof goes.)
 pub fn find<T: Same>(things: &[T], thing: &T) -> Option<usize>
     ensures { Finds things.now thing.now result }
 {
