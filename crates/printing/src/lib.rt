@@ -127,7 +127,8 @@ impl Display for Hexed {
     }
 }
 
-// One byte of ASCII.
+// One byte of ASCII. (The text of an answer is pushed: through `Display`, by which words to people go, a byte that is
+// escaped takes a third more time.)
 fn push_ascii(out: &mut String, byte: u8) -> Result<(), AllocError>
     requires { byte < 128 }
     ensures { OnOk result (string_bytes out.new ≡ string_bytes out.old ++ byte ∷ []) }
