@@ -1,8 +1,8 @@
 -- What the library's words say of a list, in the words of First.
-use Rattle.std.proofs.Common.{◌≡◌, ℕ, zero, suc, ◌+◌, ◌≤◌, Bool, true, false, cond, not, eqb, List, [], ◌∷◌, map, length, get_or, take, is_some, Some, None, Option, count_by, sym, refl, ap, ◌∙◌, arith, add-one}
-use Rattle.std.specs.List.{list_any, position, position_or_len}
+use Rattle.std.proofs.Common.{◌≡◌, ℕ, zero, suc, ◌+◌, ◌≤◌, Bool, true, false, cond, eqb, List, length, get_or, take, is_some, Some, None, Option, count_by, sym, refl, ap, ◌∙◌, arith, add-one}
+use Rattle.std.specs.List.{list_any, position}
 use Rattle.std.proofs.lemmas.Bool.{both_ways, false_from_ne_true, lt-ltb, le-ltb}
-use Rattle.std.proofs.lemmas.List.{length-map, take_all, get_or_default, get_or-take, length-take-le}
+use Rattle.std.proofs.lemmas.List.{take_all, get_or_default, get_or-take, length-take-le}
 use Rattle.std.proofs.lemmas.List.Folds.{Any-from_list_any, list_any_at}
 use Rattle.std.proofs.lemmas.List.Sums.{sum_by_more, position_or_len_is}
 use Rattle.arguments.specs.First.{when, first_below, any_below, count_below}
@@ -37,15 +37,6 @@ module _ {X : Type 0} (p : X → Bool) (xs : List X) (d : X) where
 
   pub count_is : count_by p xs ≡ count_below at (length xs)
   count_is = ap (count_by p) (sym (take_all (length xs) xs (omega arith))) ∙ counts (length xs) (omega arith)
-
--- the first of a list's images that passes, looked for in the list itself
-module _ {X Y : Type 0} (f : X → Y) (q : Y → Bool) where
-  images : (xs : List X) → position_or_len (λ x. q (f x)) xs ≡ position_or_len q (map f xs)
-  images [] = refl
-  images (x ∷ xs) = ap (λ n. cond (not (q (f x))) (1 + n) 0) (images xs)
-
-  pub position_images : (xs : List X) (d : Y) → position (λ x. q (f x)) xs ≡ first_below (λ k. q (get_or (map f xs) k d)) (length (map f xs))
-  position_images xs d = rw (images xs, ← length-map xs f) (position_is q (map f xs) d)
 
 -- who has a place among the first n, from the places of those alone
 module _ (ps : List ℕ) (n : ℕ) (l : n ≤ length ps) (k : ℕ) where

@@ -56,7 +56,7 @@ module _ (call : Call) where
   counted : count_below (λ i. not (named ns i)) (length ns) ≡ positional
   counted = ap (count_below (λ i. not (named ns i))) as_named ∙ count_spelled text given (length given)
 
-  many : length ps ≡ length call.param_names.now
+  pub many : length ps ≡ length call.param_names.now
   many = length-map call.param_names.now (λ (p : Bor (List ℕ)). p.now)
 
   -- the ends of the reordering

@@ -13,3 +13,8 @@ listed r = r.items
 abbrev pub outcome : Result Resolved Refusal → Outcome
 outcome (Ok r) = Ok (listed r)
 outcome (Err e) = Err e
+
+-- the list that was put together, or the refusal
+abbrev pub put : {A : Type 0} → Result A Refusal → List Argument → Outcome
+put (Ok _) items = Ok items
+put (Err e) items = Err e

@@ -31,13 +31,16 @@ impl Spelling<'_> {
 }
 
 impl Call<'_> {
-    // The first parameter that a name matches.
+    // The first parameter that a name matches. (Place by place, as its proof goes.)
     fn parameter_index(self, name: Spelling) -> Option<usize>
         ensures { result ≡ first_match (name_of name.entry) (params self.entry) }
     {
-        self.param_names
-            .iter()
-            .position(|param_name| name.matches(param_name))
+        for k in 0..self.param_names.len() {
+            if name.matches(self.param_names[k]) {
+                return Some(k);
+            }
+        }
+        None
     }
 
     // Where the argument goes that is written at `i`: there, or to the first parameter that its name matches.
@@ -67,16 +70,15 @@ impl Call<'_> {
         Ok(place)
     }
 
-    // The place of each argument, or 25 or 26 for the first that has none or one that was given already.
-    pub(crate) fn assign_places(self) -> Result<[usize; MOST_ARGUMENTS], Refusal>
+    // Puts the place of each argument, or refuses with 25 or 26 for the first that has none or one that was given already.
+    pub(crate) fn assign_places(self, places: &mut [usize; MOST_ARGUMENTS]) -> Result<(), Refusal>
         ensures refused { refusal_of result ≡ first (clash (params self.entry) (names self.entry)) (length self.entry.arg_names.now) }
-        ensures places { IfOk result (λ ps. Assigned (params self.entry) (names self.entry) (length self.entry.arg_names.now) ps) }
+        ensures places { IfOk result (λ _. Assigned (params self.entry) (names self.entry) (length self.entry.arg_names.now) places.new) }
     {
-        let mut places = [0; MOST_ARGUMENTS];
         // Over arguments by number, which refusals name. (In an array: of a list, its length would be said again at each use.)
         for i in 0..self.arg_names.len() {
-            places[i] = self.claim_place(i, &places)?;
+            places[i] = self.claim_place(i, places)?;
         }
-        Ok(places)
+        Ok(())
     }
 }

@@ -1,6 +1,7 @@
-// The arguments of a call gathered by place.
-ghost use Rattle.std.specs.Prelude.{◌≡◌, ◌<◌, length, IfSome};
-ghost use Rattle.arguments.specs.Answers.{listed, outcome};
+// The arguments of a call gathered by place, into a list that is lent: one that is handed on is copied whole at each step.
+ghost use Rattle.std.specs.Prelude.{◌≡◌, ◌<◌, ◌≤◌, [], length, IfSome};
+ghost use Rattle.terms.specs.Limits.{most_arguments};
+ghost use Rattle.arguments.specs.Answers.{listed, put};
 ghost use Rattle.arguments.specs.Gathering.{giver_in, stands_at, gathered};
 
 use crate::call::Call;
@@ -19,13 +20,13 @@ impl Resolved {
 }
 
 impl Call<'_> {
-    // The arguments where they are written.
-    pub(crate) fn as_written(self) -> Resolved
-        ensures { listed result ≡ self.entry.args.now }
+    // Puts the arguments into an empty list where they are written.
+    pub(crate) fn as_written(self, items: &mut FixedVec<Argument, MOST_ARGUMENTS>)
+        requires { items.old ≡ [] }
+        ensures value { items.new ≡ self.entry.args.now }
+        ensures few { length items.new ≤ most_arguments }
     {
-        Resolved {
-            items: FixedVec::from_slice(self.args),
-        }
+        items.extend_from_slice(self.args);
     }
 
     // The first argument that has place `k`.
@@ -48,15 +49,20 @@ impl Call<'_> {
         Ok(self.args[giver])
     }
 
-    // The arguments by place, or 27 for the first place that no argument has.
-    pub(crate) fn gather(self, places: &[usize; MOST_ARGUMENTS]) -> Result<Resolved, Refusal>
-        ensures { outcome result ≡ gathered places.now self.entry.args.now }
+    // Puts the arguments into an empty list by place, or refuses with 27 for the first place that no argument has.
+    pub(crate) fn gather(
+        self,
+        places: &[usize; MOST_ARGUMENTS],
+        items: &mut FixedVec<Argument, MOST_ARGUMENTS>,
+    ) -> Result<(), Refusal>
+        requires { items.old ≡ [] }
+        ensures value { put result items.new ≡ gathered places.now self.entry.args.now }
+        ensures few { length items.new ≤ most_arguments }
     {
-        let mut items = FixedVec::new();
         // Over places: who has place `k` is asked for each.
         for k in 0..self.args.len() {
             items.push(self.argument_at(places, k)?);
         }
-        Ok(Resolved { items })
+        Ok(())
     }
 }

@@ -1,10 +1,11 @@
 // Names to places: puts each argument of a call under its parameter.
 #![tactic(auto)]
 
-ghost use Rattle.std.specs.Prelude.{◌≡◌, ◌<◌, not, length, IfSome, None, slice_index_or};
+ghost use Rattle.std.specs.Prelude.{◌≡◌, ◌<◌, ◌≤◌, not, [], length, IfSome, None, Some, slice_index_or};
 ghost use Rattle.std.specs.List.{AllByRecursion};
+ghost use Rattle.terms.specs.Limits.{most_arguments};
 ghost use Rattle.terms.specs.Refusals.{refusal_of};
-ghost use Rattle.arguments.specs.Answers.{outcome};
+ghost use Rattle.arguments.specs.Answers.{outcome, put};
 ghost use Rattle.arguments.specs.Called.{params, names};
 ghost use Rattle.arguments.specs.First.{first, first_below, any_below, count_below};
 ghost use Rattle.arguments.specs.Places.{named, outside, malformed, late, with_names};
@@ -13,6 +14,7 @@ ghost use Rattle.arguments.specs.View.{bytes_of};
 ghost use Rattle.arguments.specs.Worked.{Holds, table};
 
 use call::Call;
+use fixed::FixedVec;
 use terms::{MOST_ARGUMENTS, Reason, Refusal};
 
 mod by_name;
@@ -72,15 +74,14 @@ fn first_unnamed(arg_names: &[Option<ArgumentName>]) -> Option<usize>
 }
 
 impl Call<'_> {
-    // Refuses with 23: arguments without a name come before those with one.
-    fn validate_argument_order(self) -> Result<(), Refusal>
+    // Refuses with 23: from the first argument with a name on, which is at `from`, all have one.
+    fn validate_argument_order(self, from: usize) -> Result<(), Refusal>
+        requires value { Some from ≡ first_below (named self.arg_names.now) (length self.arg_names.now) }
+        requires within { from < length self.arg_names.now }
         ensures { refusal_of result ≡ first (late self.entry.arg_names.now) (length self.entry.arg_names.now) }
     {
-        let Some(named) = first_named(self.arg_names) else {
-            return Ok(());
-        };
-        match first_unnamed(&self.arg_names[named..]) {
-            Some(behind) => Err(Reason::PositionalAfterNamed.at(named + behind)),
+        match first_unnamed(&self.arg_names[from..]) {
+            Some(behind) => Err(Reason::PositionalAfterNamed.at(from + behind)),
             None => Ok(()),
         }
     }
@@ -95,26 +96,35 @@ impl Call<'_> {
             .count()
     }
 
-    // Puts each argument under its parameter, where one of them has a name.
-    fn reorder_named_arguments(self) -> Result<Resolved, Refusal>
-        ensures { outcome result ≡ with_names (params self.entry) (names self.entry) self.entry.args.now }
+    // Puts the arguments into an empty list, each under its parameter, where one of them has a name.
+    fn reorder_named_arguments(
+        self,
+        items: &mut FixedVec<Argument, MOST_ARGUMENTS>,
+    ) -> Result<(), Refusal>
+        requires { items.old ≡ [] }
+        ensures value { put result items.new ≡ with_names (params self.entry) (names self.entry) self.entry.args.now }
+        ensures few { length items.new ≤ most_arguments }
     {
         if self.positional_count() > self.param_names.len() {
             return Err(Reason::TooManyPositional.into());
         }
-        let places = self.assign_places()?;
-        self.gather(&places)
+        let mut places = [0; MOST_ARGUMENTS];
+        self.assign_places(&mut places)?;
+        self.gather(&places, items)
     }
 
-    // The arguments by place.
-    fn resolve(self) -> Result<Resolved, Refusal>
-        ensures { Resolution (params self.entry) self.entry.text.now self.entry.args.now self.entry.arg_names.now (outcome result) }
+    // Puts the arguments into an empty list by place.
+    fn resolve(self, items: &mut FixedVec<Argument, MOST_ARGUMENTS>) -> Result<(), Refusal>
+        requires { items.old ≡ [] }
+        ensures value { Resolution (params self.entry) self.entry.text.now self.entry.args.now self.entry.arg_names.now (put result items.new) }
+        ensures few { length items.new ≤ most_arguments }
     {
-        if first_named(self.arg_names).is_none() {
-            return Ok(self.as_written());
-        }
-        self.validate_argument_order()?;
-        self.reorder_named_arguments()
+        let Some(from) = first_named(self.arg_names) else {
+            self.as_written(items);
+            return Ok(());
+        };
+        self.validate_argument_order(from)?;
+        self.reorder_named_arguments(items)
     }
 }
 
@@ -133,7 +143,10 @@ pub fn resolve_function_arguments(
 ) -> Result<Resolved, Refusal>
     ensures { Resolution (bytes_of param_names.now) text.now args.now arg_names.now (outcome result) }
 {
-    Call::new(param_names, args, arg_names, text)?.resolve()
+    let call = Call::new(param_names, args, arg_names, text)?;
+    let mut items = FixedVec::new();
+    call.resolve(&mut items)?;
+    Ok(Resolved { items })
 }
 
 // How many worked cases there are: a table of calls, each with the outcome that the definition gives it.

@@ -131,6 +131,16 @@ impl<T: Blank, const N: usize> FixedVec<T, N> {
         }
     }
 
+    // These things more at the end, as many of them as there is room for.
+    pub fn extend_from_slice(&mut self, things: &[T])
+        ensures { self.new ≡ take N (self.old ++ things.now) }
+    {
+        let more = things.len().min(N - self.len);
+        let items = &mut self.items[..];
+        items[self.len..self.len + more].copy_from_slice(&things[..more]);
+        self.len += more;
+    }
+
     // The things.
     pub fn as_slice(&self) -> &[T]
         ensures value { result.now ≡ self.now }

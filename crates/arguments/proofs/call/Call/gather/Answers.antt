@@ -11,10 +11,16 @@ loop-k-preserved c =
     let more = c.push.ensures ∙ kept c.args.places.now c.args.self.args.now c.loop-k.items c.in_ok-argument_at.field-0 _ room (omega (arith, c.loop-k.invariant.count, c.loop-k-test.true)) in
     rw more (grind (arith, common_steps))
 
-pub returns-in_err-argument_at : goal.returns-in_err-argument_at
-returns-in_err-argument_at c =
+pub returns-in_err-argument_at-clause-value : goal.returns-in_err-argument_at-clause-value
+returns-in_err-argument_at-clause-value c =
     let p = err_from_is_err_and c.from_residual.result c.from_residual.ensures.1 in
     rw (p.1, p.2) (missing c.args.places.now c.args.self.args.now c.loop-k.items c.loop-k.k _ (search rules) c.loop-k.invariant.stand c.in_err-argument_at.ensures)
 
-pub returns : goal.returns
-returns c = gathered_all c.args.places.now c.args.self.args.now c.loop-k.items (omega arith) (λ j l. c.loop-k.invariant.stand j (omega arith))
+pub returns-clause-value : goal.returns-clause-value
+returns-clause-value c = gathered_all c.args.places.now c.args.self.args.now c.loop-k.items (omega arith) (λ j l. c.loop-k.invariant.stand j (omega arith))
+
+pub returns-in_err-argument_at-clause-few : goal.returns-in_err-argument_at-clause-few
+returns-in_err-argument_at-clause-few c = omega (arith, few c.args.self.text.now c.args.self.args.now c.args.self.arg_names.now c.args.self.well_formed, c.loop-k.invariant.count)
+
+pub returns-clause-few : goal.returns-clause-few
+returns-clause-few c = omega (arith, few c.args.self.text.now c.args.self.args.now c.args.self.arg_names.now c.args.self.well_formed, c.loop-k.invariant.count)
