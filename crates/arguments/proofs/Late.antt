@@ -14,9 +14,6 @@ module _ {N : Type 0} (names : List (Option N)) where
   in_time k (inl e) = ap (λ b. when b (refusal PositionalAfterNamed k)) (and_left (not (named names k)) (any_below (named names) k) (not_from_true (named names k) e))
   in_time k (inr h) = ap (λ b. when b (refusal PositionalAfterNamed k)) (and_right (not (named names k)) (any_below (named names) k) (none_any (named names) k h))
 
-  pub none_late : None ≡ first_below (named names) (length names) → None ≡ first (late names) (length names)
-  none_late e = sym (none_first (late names) (length names) (λ k l. in_time k (inr (λ j h. below_none (named names) (length names) (sym e) j (omega arith)))))
-
   module _ (j : ℕ) (e : Some j ≡ first_below (named names) (length names)) (rest : List (Option N)) (is : rest ≡ drop j names) where
     -- an argument at or behind the first named one has no name
     abbrev unnamed : ℕ → Bool

@@ -50,6 +50,7 @@ impl Call<'_> {
     }
 
     // Puts the arguments into an empty list by place, or refuses with 27 for the first place that no argument has.
+    #[tactic(auto, using(crate::proofs::Formed::few))]
     pub(crate) fn gather(
         self,
         places: &[usize; MOST_ARGUMENTS],

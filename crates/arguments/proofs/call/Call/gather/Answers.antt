@@ -18,9 +18,3 @@ returns-in_err-argument_at-clause-value c =
 
 pub returns-clause-value : goal.returns-clause-value
 returns-clause-value c = gathered_all c.args.places.now c.args.self.args.now c.loop-k.items (omega arith) (λ j l. c.loop-k.invariant.stand j (omega arith))
-
-pub returns-in_err-argument_at-clause-few : goal.returns-in_err-argument_at-clause-few
-returns-in_err-argument_at-clause-few c = omega (arith, few c.args.self.text.now c.args.self.args.now c.args.self.arg_names.now c.args.self.well_formed, c.loop-k.invariant.count)
-
-pub returns-clause-few : goal.returns-clause-few
-returns-clause-few c = omega (arith, few c.args.self.text.now c.args.self.args.now c.args.self.arg_names.now c.args.self.well_formed, c.loop-k.invariant.count)
