@@ -79,7 +79,8 @@ module _ (m : Memory) (c : Counts) (r : TypeRecord) (k : Vouch m c) (f : fit c.l
       let t = w.types_mean n l in
       let q : means m n ≡ grown (means m) r = cc in
       let g : fit m.labels.high c.types (means m) r ≡ true = ap (λ (x : ℕ). fit x c.types (means m) r) (sym k.labels) ∙ f in
-      let told = record_told m.labels.high m.types.places.now c.types (λ i h. m.types_sound i (omega (arith, k.types))) (omega (arith, k.types, m.types.room)) (λ i j h. m.types_apart i j (h.0, omega (arith, k.types))) n r l (fit_parts m.labels.high c.types (means m) r g) q in
+      let parts = fit_parts m.labels.high c.types (means m) r g in
+      let told = record_told m.labels.high m.types.places.now c.types (λ i h. m.types_sound i (omega (arith, k.types))) (omega (arith, k.types, m.types.room)) (λ i j h. m.types_apart i j (h.0, omega (arith, k.types))) n r l parts.below (parts.child, parts.second) q in
       h n (nth_take c.types m.types.places.now n l ∙ slice_get-get_or m.types.places.now n blank (omega (arith, k.types, m.types.room)) ∙ ap Some told)
 
 -- of a record that may stand only the want of room is refused

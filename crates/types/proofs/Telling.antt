@@ -10,6 +10,7 @@ use Rattle.places.specs.declared.record.TypeRecord.{TypeRecord}
 use Rattle.places.specs.Records.{blank}
 use Rattle.types.specs.Trees.{Head, Ty, none, node, kind_of, second_of, head_of, same_int, same_head, same, wild, depth, Calm, grown, tree, is_dictionary}
 use Rattle.types.specs.Facts.{Sound, Apart}
+use Rattle.types.proofs.Meanings.{Below}
 use Rattle.types.proofs.Fitting.{Fit, sound-at, tree-at}
 
 -- whole numbers that are the same
@@ -43,9 +44,13 @@ calm_none : Calm none
 unfolding Calm
 calm_none = tt
 
--- two records that may stand are equal where they say the same over the same numbers
-same_record : (labels m n : ℕ) (f : ℕ → Ty) (r q : TypeRecord) → Fit labels m f r → Fit labels n f q → head_of r ≡ head_of q → (has_child r.kind ≡ true → r.child ≡ q.child) → (is_dictionary r.kind ≡ true → r.second ≡ q.second) → r ≡ q
-same_record labels m n f r q fr fq e c d = grind (arith, nat_tests)
+-- what a record's kind does not use is 0
+abbrev pub Spare : TypeRecord → Type 0
+Spare r = (has_child r.kind ≡ false → r.child ≡ 0) × (is_dictionary r.kind ≡ false → r.second ≡ 0)
+
+-- two such records are equal where they say the same over the same numbers
+same_record : (r q : TypeRecord) → Spare r → Spare q → head_of r ≡ head_of q → (has_child r.kind ≡ true → r.child ≡ q.child) → (is_dictionary r.kind ≡ true → r.second ≡ q.second) → r ≡ q
+same_record r q sr sq e c d = let a = sr.0 in let b = sr.1 in let x = sq.0 in let y = sq.1 in grind (arith, nat_tests)
 
 module _ (labels : ℕ) (rs : List TypeRecord) (size : ℕ) (s : Sound labels rs size) (len : size ≤ length rs) where
   at : (n : ℕ) → n < size → tree rs n ≡ grown (tree rs) (get_or rs n blank)
@@ -70,21 +75,23 @@ module _ (labels : ℕ) (rs : List TypeRecord) (size : ℕ) (s : Sound labels rs
         let fq = fits n hn in
         let tc = tell c r.child q.child in
         let td = tell d r.second q.second in
-        record_tells m n hm hn (same_record labels m n (tree rs) r q fr fq (grind arith) (λ e. grind arith) (λ e. grind arith))
+        record_tells m n hm hn (same_record r q (fr.child, fr.second) (fq.child, fq.second) (grind arith) (λ e. grind arith) (λ e. grind arith))
 
     -- equal trees have one number
     pub numbers_tell : (m n : ℕ) → m < size → n < size → tree rs m ≡ tree rs n → m ≡ n
     numbers_tell m n hm hn e = tell (tree rs n) m n hm hn e refl
 
-    -- a record that may stand behind the others is that of a number with its tree
-    pub record_told : (n : ℕ) (r : TypeRecord) → n < size → Fit labels size (tree rs) r → tree rs n ≡ grown (tree rs) r → get_or rs n blank ≡ r
-    record_told n r h f e =
+    -- a record over types that stand, which says nothing of what its kind does not use, is that of a number with its tree
+    pub record_told : (n : ℕ) (r : TypeRecord) → n < size → Below size r → Spare r → tree rs n ≡ grown (tree rs) r → get_or rs n blank ≡ r
+    record_told n r h b z e =
         let q = get_or rs n blank in
         let x = at n h in
         let fq = fits n h in
+        let bc = b.child in
+        let bd = b.second in
         let tc = numbers_tell q.child r.child in
         let td = numbers_tell q.second r.second in
-        same_record labels n size (tree rs) q r fq f (grind arith) (λ t. grind arith) (λ t. grind arith)
+        same_record q r (fq.child, fq.second) z (grind arith) (λ t. grind arith) (λ t. grind arith)
 
     -- the test on numbers is the test on trees
     pub same_tree : (m n : ℕ) → m < size → n < size → same (tree rs m) (tree rs n) ≡ eqb m n
