@@ -44,13 +44,13 @@ calm_none : Calm none
 unfolding Calm
 calm_none = tt
 
--- what a record's kind does not use is 0
+-- a part that a record's kind does not have is 0
 abbrev pub Spare : TypeRecord → Type 0
 Spare r = (has_child r.kind ≡ false → r.child ≡ 0) × (is_dictionary r.kind ≡ false → r.second ≡ 0)
 
 -- two such records are equal where they say the same over the same numbers
 same_record : (r q : TypeRecord) → Spare r → Spare q → head_of r ≡ head_of q → (has_child r.kind ≡ true → r.child ≡ q.child) → (is_dictionary r.kind ≡ true → r.second ≡ q.second) → r ≡ q
-same_record r q sr sq e c d = let a = sr.0 in let b = sr.1 in let x = sq.0 in let y = sq.1 in grind (arith, nat_tests)
+same_record r q sr sq e c d = grind (arith, nat_tests)
 
 module _ (labels : ℕ) (rs : List TypeRecord) (size : ℕ) (s : Sound labels rs size) (len : size ≤ length rs) where
   at : (n : ℕ) → n < size → tree rs n ≡ grown (tree rs) (get_or rs n blank)
@@ -81,14 +81,12 @@ module _ (labels : ℕ) (rs : List TypeRecord) (size : ℕ) (s : Sound labels rs
     pub numbers_tell : (m n : ℕ) → m < size → n < size → tree rs m ≡ tree rs n → m ≡ n
     numbers_tell m n hm hn e = tell (tree rs n) m n hm hn e refl
 
-    -- a record over types that stand, which says nothing of what its kind does not use, is that of a number with its tree
+    -- a record over types that stand, whose other parts are 0, is that of a number with its tree
     pub record_told : (n : ℕ) (r : TypeRecord) → n < size → Below size r → Spare r → tree rs n ≡ grown (tree rs) r → get_or rs n blank ≡ r
     record_told n r h b z e =
         let q = get_or rs n blank in
         let x = at n h in
         let fq = fits n h in
-        let bc = b.child in
-        let bd = b.second in
         let tc = numbers_tell q.child r.child in
         let td = numbers_tell q.second r.second in
         same_record q r (fq.child, fq.second) z (grind arith) (λ t. grind arith) (λ t. grind arith)
